@@ -13,7 +13,7 @@ use Rattle.lists.specs.FirstLaws.{first-most, first-in, first-passes, first-bef
 use Rattle.sheet.specs.Module.{TypeDef, coroutine, isStruct, typeAt}
 use Rattle.sheet.specs.Encode.{encodeType}
 use Rattle.sheet.specs.Coded.{codedType}
-use Rattle.sheet.specs.CodeLaws.{type-injective}
+use Rattle.sheet.specs.TypeCodes.{type-injective}
 use Rattle.sheet.specs.TypeLaws.{type-out, struct-known, good-at}
 use Rattle.canon.specs.Canon.{canonString, sameType, canonType}
 
