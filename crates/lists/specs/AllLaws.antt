@@ -1,0 +1,18 @@
+-- Laws of `all` over joined and mapped lists.
+use mathlib.Core.Path.{_≡_, refl, sym, ap, ap₂, _∙_}
+use mathlib.Core.List.{List, [], _∷_, _++_, map}
+use mathlib.Core.Bool.{Bool, _&&_, and-assoc}
+use Rattle.lists.specs.Lists.{all, concatMap}
+
+pub all-join : {A : Type 0} (p : A → Bool) (xs ys : List A) → all p (xs ++ ys) ≡ (all p xs && all p ys)
+all-join p [] ys = refl
+all-join p (x ∷ xs) ys = ap (λ b. p x && b) (all-join p xs ys) ∙ sym (and-assoc (p x) (all p xs) (all p ys))
+
+pub all-concatMap : {A B : Type 0} (p : B → Bool) (f : A → List B) (xs : List A) → all p (concatMap f xs) ≡ all (λ x. all p (f x)) xs
+all-concatMap p f [] = refl
+all-concatMap p f (x ∷ xs) = all-join p (f x) (concatMap f xs) ∙ ap (λ b. all p (f x) && b) (all-concatMap p f xs)
+
+-- a test of what f makes of each member, and a test of the members that says the same
+pub all-map : {A B : Type 0} (p : B → Bool) (q : A → Bool) (f : A → B) → ((x : A) → p (f x) ≡ q x) → (xs : List A) → all p (map f xs) ≡ all q xs
+all-map p q f h [] = refl
+all-map p q f h (x ∷ xs) = ap₂ _&&_ (h x) (all-map p q f h xs)
