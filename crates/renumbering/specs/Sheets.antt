@@ -1,4 +1,4 @@
--- The theorem over bytes: the second sheet is written from what the first holds.
+-- The theorem over bytes, and the two ways to say that sheets differ by one renumbering.
 use mathlib.Core.Path.{_≡_, sym, ap, _∙_}
 use mathlib.Core.Bool.{true}
 use mathlib.Core.List.{List}
@@ -15,17 +15,9 @@ use Rattle.sheet.specs.Encode.{sheetOf}
 use Rattle.sheet.specs.SheetLaws.{decode-is-sheet, decode-coded, decode-length, sheet-length}
 use Rattle.load.specs.Load.{longEnough}
 use Rattle.renumber.specs.Renumber.{isRenumbering, renumber, sheetAgain, renumberSheet}
-use Rattle.renumbering.specs.Statement.{Call, LongEnough, hasRoom, Renumbered, Outcome}
+use Rattle.renumbering.specs.Statement.{Call, LongEnough, hasRoom, Renumbered, RenumberedSheet, Outcome}
 use Rattle.renumbering.specs.Theorem.{renumbered}
 use Rattle.renumbering.specs.Written.{renumbered-size, renumbered-coded, renumbered-decodes}
-
--- the second sheet is the written sheet of the first one's module, renumbered
-pub record RenumberedSheet (r first second : List ℕ) : Type 0 where
-  pub source : Module
-  pub bytes : all isByte first ≡ true
-  pub intact : decode first ≡ some source
-  pub renumbering : T (isRenumbering (length (source .types)) r)
-  pub written : second ≡ sheetOf (renumber r source)
 
 module _ {r first second : List ℕ} where
   abbrev pub as-renumbered : RenumberedSheet r first second → Renumbered r first second
