@@ -1,6 +1,6 @@
 -- What each answer of load means.
 use Prim.Native.Nat.{ℕ}
-use mathlib.Core.Path.{_≡_, refl, sym, ap, ap₂, _∙_, subst}
+use mathlib.Core.Path.{_≡_, refl, sym, ap, _∙_, subst}
 use mathlib.Core.Logic.{_↔_}
 use mathlib.Core.List.{List, [], _∷_}
 use mathlib.Core.Bool.{Bool, true, false, _&&_, _||_}
@@ -14,7 +14,6 @@ use Rattle.lists.specs.ListLaws.{and-first}
 use Rattle.error.specs.declared.LoadErrorKind.{LoadErrorKind}
 use Rattle.error.specs.declared.LoadErrorKind.the-variants.{Decode, BadHostList, ShortSlice, NotLinked}
 use Rattle.error.specs.declared.LoadError.{LoadError}
-use Rattle.error.specs.declared.Loaded.{Loaded}
 use Rattle.error.specs.declared.Loaded.the-variants.{Accepted, Refused}
 use Rattle.error.specs.Answer.{kindNumbers, inModule, first}
 use Rattle.sheet.specs.Module.{Module}
@@ -24,7 +23,8 @@ use Rattle.parents.specs.Parents.{mostOnChain}
 use Rattle.table.specs.Table.{tableWords}
 use Rattle.load.specs.Load.{moduleFaults, longEnough, Opened, refused, opened, withHosts, withModule, opening, answer, load}
 use Rattle.load.specs.LoadLaws.{module-opened}
-use Rattle.load.specs.RuleKinds.{kindNumber, judged, ofRules, rules-kinds}
+use Rattle.load.specs.Kinds.{kindNumber, judged, ofRules}
+use Rattle.load.specs.RuleKinds.{rules-kinds}
 
 -- ── the kinds that are given before any rule ──
 
@@ -63,6 +63,7 @@ refused-early b (some m) none k e = let z : BadHostList ≡ k = cc in subst (λ 
 refused-early true (some m) (some hs) k e = let z : _≡_ {A = ℕ} 0 1 = cc in absurd (omega arith)
 refused-early false (some m) (some hs) k e = let z : ShortSlice ≡ k = cc in subst (λ (k : LoadErrorKind). early k ≡ true) z refl
 
+-- an answer with a kind that no rule gives comes from before the rules
 early-answer : (k : LoadErrorKind) → ofRules k ≡ false → (o : Opened) → (answer o ≡ Refused (inModule k)) ↔ (o ≡ refused k)
 unfolding answer
 early-answer k n (refused x) = (λ q. let z : inModule x ≡ inModule k = cc in ap (λ (e : LoadError). refused (e .kind)) z, λ q. ap answer q)
@@ -78,6 +79,7 @@ pub record Given {A : Type 0} (o : Option A) : Type 0 where
   pub value : A
   pub given : o ≡ some value
 
+-- 1 came of a sheet that does not decode
 no-sheet : (b : Bool) (d : Option Module) (o : Option (List HostFn)) → withModule b d o ≡ refused Decode → d ≡ none
 unfolding withModule withHosts
 no-sheet b none o q = refl
@@ -85,6 +87,7 @@ no-sheet b (some m) none q = let z : _≡_ {A = ℕ} 0 1 = cc in absurd (omega a
 no-sheet true (some m) (some hs) q = let z : _≡_ {A = ℕ} 0 1 = cc in absurd (omega arith)
 no-sheet false (some m) (some hs) q = let z : _≡_ {A = ℕ} 0 1 = cc in absurd (omega arith)
 
+-- 23 came of a host list that does not
 no-hosts : (b : Bool) (d : Option Module) (o : Option (List HostFn)) → withModule b d o ≡ refused BadHostList → Given d × (o ≡ none)
 unfolding withModule withHosts
 no-hosts b none o q = let z : _≡_ {A = ℕ} 0 1 = cc in absurd (omega arith)
@@ -92,6 +95,7 @@ no-hosts b (some m) none q = (record { value = m; given = refl }, refl)
 no-hosts true (some m) (some hs) q = let z : _≡_ {A = ℕ} 0 1 = cc in absurd (omega arith)
 no-hosts false (some m) (some hs) q = let z : _≡_ {A = ℕ} 0 1 = cc in absurd (omega arith)
 
+-- 24 came of slices that are too short
 no-room : (b : Bool) (d : Option Module) (o : Option (List HostFn)) → withModule b d o ≡ refused ShortSlice → Given d × Given o × (b ≡ false)
 unfolding withModule withHosts
 no-room b none o q = let z : _≡_ {A = ℕ} 0 1 = cc in absurd (omega arith)
@@ -109,6 +113,7 @@ pub record Links (sheet hosts : List ℕ) (table work l : ℕ) : Type 0 where
   pub kept : moduleFaults mostOnChain hostList source ≡ []
   pub words : l ≡ length (tableWords mostOnChain hostList source)
 
+-- accepted: no fault, and the number that was given
 pub first-accepted : (n l : ℕ) (es : List LoadError) → first n es ≡ Accepted l → (es ≡ []) × (l ≡ n)
 unfolding first
 first-accepted n l [] q = (refl, cc)
@@ -154,10 +159,13 @@ module _ (sheet hosts : List ℕ) (table work : ℕ) where
   -- 0: accepted with l words
   pub accepted : (l : ℕ) → (load sheet hosts table work ≡ Accepted l) ↔ Links sheet hosts table work l
   unfolding load opening answer
-  accepted l = (λ q. go (opening sheet hosts table work) refl q, λ k.
-      ap answer (opens (k .source) (k .hostList) (k .decodes) (k .lists) (k .long))
-      ∙ ap (first (length (tableWords mostOnChain (k .hostList) (k .source)))) (k .kept)
-      ∙ unfold first in ap Accepted (sym (k .words)))
+  accepted l = (
+    λ q. go (opening sheet hosts table work) refl q,
+    λ k.
+        ap answer (opens (k .source) (k .hostList) (k .decodes) (k .lists) (k .long))
+        ∙ ap (first (length (tableWords mostOnChain (k .hostList) (k .source)))) (k .kept)
+        ∙ unfold first in ap Accepted (sym (k .words)),
+  )
     where
       go : (o : Opened) → opening sheet hosts table work ≡ o → answer o ≡ Accepted l → Links sheet hosts table work l
       go (refused k) e q = unfold answer in let z : _≡_ {A = ℕ} 0 1 = cc in absurd (omega arith)
@@ -166,18 +174,21 @@ module _ (sheet hosts : List ℕ) (table work : ℕ) where
           let a = first-accepted (length (tableWords mostOnChain hs m)) l (moduleFaults mostOnChain hs m) q in
           record { source = m; hostList = hs; decodes = d; lists = o; long = t; kept = a .0; words = a .1 }
 
-  -- 25 is the family query's alone
-  pub never-not-linked : (e : LoadError) → load sheet hosts table work ≡ Refused e → e .kind ≡ NotLinked → ⊥
+  -- a refusal is for 1, 23 or 24, or for the first fault of what was opened
+  pub refused-cases : {C : Type 0} (e : LoadError) → load sheet hosts table work ≡ Refused e → (early (e .kind) ≡ true → C)
+      → ((m : Module) (hs : List HostFn) → answer (opened m hs) ≡ Refused e → C) → C
   unfolding load opening
-  never-not-linked e q n = go (opening sheet hosts table work) refl q
+  refused-cases {C} e q f g = go (opening sheet hosts table work) refl q
     where
-      go : (o : Opened) → opening sheet hosts table work ≡ o → answer o ≡ Refused e → ⊥
+      go : (o : Opened) → opening sheet hosts table work ≡ o → answer o ≡ Refused e → C
       go (refused k) p q =
           let z : inModule k ≡ e = unfold answer in cc in
-          let t : early (e .kind) ≡ true = subst (λ (x : LoadError). early (x .kind) ≡ true) z (refused-early (longEnough sheet table work) (decode sheet) (decodeHosts hosts) k p) in
-          let f : early (e .kind) ≡ false = unfold early kindNumber kindNumbers in ap early n in
-          let z : _≡_ {A = ℕ} 0 1 = cc in omega arith
-      go (opened m hs) p q =
-          let t = opened-refused m hs e q in
-          let f : ofRules (e .kind) ≡ false = unfold ofRules judged kindNumber kindNumbers in ap ofRules n in
-          let z : _≡_ {A = ℕ} 0 1 = cc in omega arith
+          f (subst (λ (x : LoadError). early (x .kind) ≡ true) z (refused-early (longEnough sheet table work) (decode sheet) (decodeHosts hosts) k p))
+      go (opened m hs) p q = g m hs q
+
+  -- 25 is the family query's alone
+  pub never-not-linked : (e : LoadError) → load sheet hosts table work ≡ Refused e → e .kind ≡ NotLinked → ⊥
+  unfolding early ofRules judged kindNumber kindNumbers
+  never-not-linked e q n = refused-cases e q
+      (λ t. let f : early (e .kind) ≡ false = ap early n in let z : _≡_ {A = ℕ} 0 1 = cc in omega arith)
+      (λ m hs a. let t = opened-refused m hs e a in let f : ofRules (e .kind) ≡ false = ap ofRules n in let z : _≡_ {A = ℕ} 0 1 = cc in omega arith)
