@@ -1,0 +1,38 @@
+-- The kinds that the rules give, and tests of a list of faults.
+use Prim.Native.Nat.{ℕ}
+use mathlib.Core.Path.{_≡_, refl, ap}
+use mathlib.Core.List.{List, map}
+use mathlib.Core.Bool.{Bool, true, false, _&&_, _||_}
+use lib.Dec.{eqb, ltb}
+use lib.ListN.{getD}
+use Rattle.lists.specs.Lists.{all}
+use Rattle.lists.specs.AllLaws.{all-join, all-map, all-each, all-each-from}
+use Rattle.error.specs.declared.LoadErrorKind.{LoadErrorKind}
+use Rattle.error.specs.declared.LoadError.{LoadError}
+use Rattle.error.specs.Answer.{kindNumbers, unless}
+
+-- the first of an answer's six numbers
+unfoldable pub kindNumber : LoadErrorKind → ℕ
+kindNumber k = getD (kindNumbers k) 0 0
+
+-- kinds 2 to 22: all rules but the walk give no others
+unfoldable pub judged : LoadErrorKind → Bool
+judged k = ltb 1 (kindNumber k) && ltb (kindNumber k) 23
+
+-- the kinds that the rules give: not 1, 23, 24, 25
+unfoldable pub ofRules : LoadErrorKind → Bool
+ofRules k = judged k || eqb (kindNumber k) 26
+
+-- ── a list of faults, by its parts ──
+
+-- a rule's kind passes, so what comes of the rule does
+pub all-unless : (p : LoadErrorKind → Bool) (b : Bool) (k : LoadErrorKind) → p k ≡ true → all p (unless b k) ≡ true
+all-unless p true k h = refl
+all-unless p false k h = rw h
+
+-- a place keeps the kind
+pub all-placed : (f : LoadErrorKind → LoadError) → ((k : LoadErrorKind) → f k .kind ≡ k) → (ks : List LoadErrorKind) → all (λ e. judged (e .kind)) (map f ks) ≡ all judged ks
+all-placed f h ks = all-map (λ e. judged (e .kind)) judged f (λ k. ap judged (h k)) ks
+
+-- a list of faults is `++`, `concatMap`, `map` and `unless`
+pub ruleset parts = (all-join, all-placed, all-each, all-each-from, all-unless)
