@@ -83,3 +83,63 @@ module _ (b : List ℕ) (n : ℕ) where
   zeros-end i s h = sym (s .same ∙ ap (all (eqb 0)) (drop-of-length-le (words b) {i = i} (omega (arith, length-words b))))
 
 pub ruleset zeroing = (zeros-start, zeros-next, zeros-stop, zeros-end)
+
+-- ── the frame ──
+
+module _ (b : List ℕ) where
+  broken-if : (Intact b (blockCount b) → ⊥) → Broken ≡ frameOf (framed b)
+  unfolding frameOf
+  broken-if f = go (framed b) refl
+    where
+      go : (o : Option (List ℕ)) → framed b ≡ o → Broken ≡ frameOf o
+      go none e = refl
+      go (some ws) e = absurd (f (framed-intact b ws e .0))
+
+  pub frame-ragged : (length b % 512 ≡ 0 → ⊥) → Broken ≡ frameOf (framed b)
+  frame-ragged h = broken-if λ i. h (omega (arith, i .length-is))
+
+  pub frame-empty : length b / 512 < 1 → Broken ≡ frameOf (framed b)
+  unfolding blockCount
+  frame-empty h = broken-if λ i. omega (arith, i .some-block)
+
+  pub frame-long : 4096 < length b / 512 → Broken ≡ frameOf (framed b)
+  unfolding blockCount
+  frame-long h = broken-if λ i. omega (arith, i .few-blocks)
+
+  pub frame-unchecked : {r : Bool} → r ≡ false → r ≡ allChecked 0 (blocks b) → Broken ≡ frameOf (framed b)
+  unfolding blocks
+  frame-unchecked f e = broken-if λ i. let t = i .all-checked in let z : _≡_ {A = ℕ} 0 1 = cc in omega arith
+
+  pub frame-edition : {w : ℕ} → (w ≡ 1 → ⊥) → w ≡ getD (words b) 0 0 → Broken ≡ frameOf (framed b)
+  frame-edition h e = broken-if λ i. h (e ∙ i .edition-is)
+
+  pub frame-early : {n : ℕ} → n ≤ 127 * (length b / 512 - 1) → n ≡ getD (words b) 1 0 → Broken ≡ frameOf (framed b)
+  unfolding blockCount lengthWord
+  frame-early h e = broken-if λ i. omega (arith, i .past-block)
+
+  pub frame-late : {n : ℕ} → 127 * (length b / 512) < n → n ≡ getD (words b) 1 0 → Broken ≡ frameOf (framed b)
+  unfolding blockCount lengthWord
+  frame-late h e = broken-if λ i. omega (arith, i .in-block)
+
+  pub frame-filled : {n : ℕ} {z : Bool} → z ≡ false → z ≡ zeroFrom (words b) n → n ≡ getD (words b) 1 0 → Broken ≡ frameOf (framed b)
+  unfolding zeroFrom lengthWord
+  frame-filled {n} f e k = broken-if λ i. let t : zeroFrom (words b) n ≡ true = ap (λ m. all (eqb 0) (drop m (words b))) k ∙ i .zero-after in let z : _≡_ {A = ℕ} 0 1 = cc in omega arith
+
+  pub frame-found : {n w : ℕ} {r z : Bool} → length b % 512 ≡ 0 → 1 ≤ length b / 512 → length b / 512 ≤ 4096 → r ≡ true → r ≡ allChecked 0 (blocks b)
+      → w ≡ 1 → w ≡ getD (words b) 0 0 → n ≡ getD (words b) 1 0 → 127 * (length b / 512 - 1) < n → n ≤ 127 * (length b / 512) → z ≡ true → z ≡ zeroFrom (words b) n
+      → Words n ≡ frameOf (framed b)
+  unfolding frameOf blocks blockCount lengthWord zeroFrom
+  frame-found {n} h₁ h₂ h₃ t₄ e₄ t₅ e₅ e h₆ h₇ t₈ e₈ =
+      let i : Intact b (length b / 512) = record {
+        length-is = omega arith;
+        some-block = h₂;
+        few-blocks = h₃;
+        all-checked = sym e₄ ∙ t₄;
+        edition-is = sym e₅ ∙ t₅;
+        past-block = omega arith;
+        in-block = omega arith;
+        zero-after = ap (λ m. all (eqb 0) (drop m (words b))) (sym e) ∙ sym e₈ ∙ t₈;
+      } in
+      sym (ap frameOf (intact-framed b i) ∙ ap Words (length-take-le (getD (words b) 1 0) (words b) (omega (arith, length-words b)) ∙ sym e))
+
+pub ruleset framing = (frame-ragged, frame-empty, frame-long, frame-unchecked, frame-edition, frame-early, frame-late, frame-filled, frame-found)
