@@ -69,16 +69,31 @@ module _ (b : ℕ) where
   pub first-tail : 0x80 ≤ b → b ≤ 0xC1 → meaning Wrong ≡ begin chars b
   unfolding meaning begin
   first-tail l u = simp (
-    lt-leb b 0x7F (omega arith), and-false,
-    lt-leb 0xC2 b (omega arith), lt-leb 0xE0 b (omega arith), lt-leb 0xE1 b (omega arith), lt-leb 0xED b (omega arith),
-    lt-leb 0xEE b (omega arith), lt-leb 0xF0 b (omega arith), lt-leb 0xF1 b (omega arith), lt-leb 0xF4 b (omega arith),
+    lt-leb b 0x7F (omega arith),
+    and-false,
+    lt-leb 0xC2 b (omega arith),
+    lt-leb 0xE0 b (omega arith),
+    lt-leb 0xE1 b (omega arith),
+    lt-leb 0xED b (omega arith),
+    lt-leb 0xEE b (omega arith),
+    lt-leb 0xF0 b (omega arith),
+    lt-leb 0xF1 b (omega arith),
+    lt-leb 0xF4 b (omega arith),
   )
 
   pub first-past : 0xF5 ≤ b → meaning Wrong ≡ begin chars b
   unfolding meaning begin
   first-past l = simp (
-    lt-leb b 0x7F (omega arith), lt-leb b 0xDF (omega arith), lt-leb b 0xE0 (omega arith), lt-leb b 0xEC (omega arith), lt-leb b 0xED (omega arith),
-    lt-leb b 0xEF (omega arith), lt-leb b 0xF0 (omega arith), lt-leb b 0xF3 (omega arith), lt-leb b 0xF4 (omega arith), and-false,
+    lt-leb b 0x7F (omega arith),
+    lt-leb b 0xDF (omega arith),
+    lt-leb b 0xE0 (omega arith),
+    lt-leb b 0xEC (omega arith),
+    lt-leb b 0xED (omega arith),
+    lt-leb b 0xEF (omega arith),
+    lt-leb b 0xF0 (omega arith),
+    lt-leb b 0xF3 (omega arith),
+    lt-leb b 0xF4 (omega arith),
+    and-false,
   )
 
 pub ruleset firsts = (first-done, first-tail1, first-E0, first-tail2, first-ED, first-tail2-late, first-F0, first-tail3, first-F4, first-tail, first-past)
