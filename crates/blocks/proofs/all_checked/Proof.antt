@@ -11,35 +11,27 @@ Inv-loop bytes left₀ k₀ left k = Checks bytes left k
 abbrev μ-loop : tie.MeasureT-loop
 μ-loop bytes left₀ k₀ left k = left
 
--- src/lib.rt:78:5
 loop-holds : tie.Need-loop-holds Inv-loop μ-loop
 loop-holds c = search (needs, checking)
 
--- src/lib.rt:79:12
 is-checked-requires : tie.Need-is-checked-requires Inv-loop μ-loop
 is-checked-requires c κs = search (needs, checking)
 
--- src/lib.rt:80:13
 add-k : tie.Need-add-k Inv-loop μ-loop
 add-k c = search (needs, checking)
 
--- src/lib.rt:81:13
 sub-left : tie.Need-sub-left Inv-loop μ-loop
 sub-left c = search (needs, checking)
 
--- src/lib.rt:78:5
 loop-less : tie.Need-loop-less Inv-loop μ-loop
 loop-less c = search (needs, checking)
 
--- src/lib.rt:78:5
 loop-again : tie.Need-loop-again Inv-loop μ-loop
 loop-again c = search (needs, checking)
 
--- src/lib.rt:83:13
 returns : tie.Need-returns Inv-loop μ-loop
 returns c = search (needs, checking)
 
--- src/lib.rt:73:1
 returns-2 : tie.Need-returns-2 Inv-loop μ-loop
 returns-2 c = search (needs, checking)
 

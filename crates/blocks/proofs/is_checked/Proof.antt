@@ -5,79 +5,60 @@ use Rattle.blocks.proofs.Reading.{checked-there, checked-past}
 use Rattle.blocks.proofs.is_checked.Statement.{statement}
 use Rattle.blocks.proofs.is_checked.Tie as tie
 
--- src/lib.rt:62:20
 mul-from : tie.Need-mul-from
 mul-from c = search needs
 
--- src/lib.rt:63:19
 add-end : tie.Need-add-end
 add-end c = search needs
 
--- src/lib.rt:64:25
 sub-weigh : tie.Need-sub-weigh
 sub-weigh c = search needs
 
--- src/lib.rt:64:25
 part-weigh-start : tie.Need-part-weigh-start
 part-weigh-start c = search needs
 
--- src/lib.rt:64:25
 part-weigh-end : tie.Need-part-weigh-end
 part-weigh-end c = search needs
 
--- src/lib.rt:64:19
 weigh-requires : tie.Need-weigh-requires
 weigh-requires c κs = search needs
 
--- src/lib.rt:64:19
 cast-sum : tie.Need-cast-sum
 cast-sum c = search needs
 
--- src/lib.rt:65:29
 shared-slice-read-word-of : tie.Need-shared-slice-read-word-of
 shared-slice-read-word-of c = search needs
 
--- src/lib.rt:65:47
 add-word-of : tie.Need-add-word-of
 add-word-of c = search needs
 
--- src/lib.rt:65:41
 shared-slice-read-word-of-2 : tie.Need-shared-slice-read-word-of-2
 shared-slice-read-word-of-2 c = search needs
 
--- src/lib.rt:65:63
 add-word-of-2 : tie.Need-add-word-of-2
 add-word-of-2 c = search needs
 
--- src/lib.rt:65:57
 shared-slice-read-word-of-3 : tie.Need-shared-slice-read-word-of-3
 shared-slice-read-word-of-3 c = search needs
 
--- src/lib.rt:65:79
 add-word-of-3 : tie.Need-add-word-of-3
 add-word-of-3 c = search needs
 
--- src/lib.rt:65:73
 shared-slice-read-word-of-4 : tie.Need-shared-slice-read-word-of-4
 shared-slice-read-word-of-4 c = search needs
 
--- src/lib.rt:65:21
 word-of-requires : tie.Need-word-of-requires
 word-of-requires c κs = search needs
 
--- src/lib.rt:65:21
 cast-check : tie.Need-cast-check
 cast-check c = search needs
 
--- src/lib.rt:66:19
 add-result : tie.Need-add-result
 add-result c = search needs
 
--- src/lib.rt:58:1
 returns : tie.Need-returns
 returns c = search (needs, checked-there, checked-past)
 
--- src/lib.rt:58:1
 returns-2 : tie.Need-returns-2
 returns-2 c = search (needs, checked-there, checked-past)
 

@@ -12,35 +12,27 @@ Inv-loop bytes n end i₀ i = Zeros bytes n i
 abbrev μ-loop : tie.MeasureT-loop
 μ-loop bytes n end i₀ i = end - i
 
--- src/lib.rt:93:15
 mul-end : tie.Need-mul-end Inv-loop μ-loop
 mul-end c = search (needs, zeroing)
 
--- src/lib.rt:95:5
 loop-holds : tie.Need-loop-holds Inv-loop μ-loop
 loop-holds c = search (needs, zeroing)
 
--- src/lib.rt:96:12
 word-requires : tie.Need-word-requires Inv-loop μ-loop
 word-requires c κs = search (needs, zeroing)
 
--- src/lib.rt:97:13
 add-i : tie.Need-add-i Inv-loop μ-loop
 add-i c = search (needs, zeroing)
 
--- src/lib.rt:95:5
 loop-less : tie.Need-loop-less Inv-loop μ-loop
 loop-less c = search (needs, zeroing)
 
--- src/lib.rt:95:5
 loop-again : tie.Need-loop-again Inv-loop μ-loop
 loop-again c = search (needs, zeroing)
 
--- src/lib.rt:99:13
 returns : tie.Need-returns Inv-loop μ-loop
 returns c = search (needs, zeroing)
 
--- src/lib.rt:90:1
 returns-2 : tie.Need-returns-2 Inv-loop μ-loop
 returns-2 c = search (needs, zeroing)
 

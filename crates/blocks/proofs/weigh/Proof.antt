@@ -12,47 +12,36 @@ Inv-loop bytes n sum₀ weight₀ i₀ sum weight i = Weighs bytes n sum weight 
 abbrev μ-loop : tie.MeasureT-loop
 μ-loop bytes n sum₀ weight₀ i₀ sum weight i = n - i
 
--- src/lib.rt:48:9
 weighed-bytes-requires : tie.Need-weighed-bytes-requires Inv-loop μ-loop
 weighed-bytes-requires c κs = search (needs, weighs-start, weighs-next, weighs-end)
 
--- src/lib.rt:52:5
 loop-holds : tie.Need-loop-holds Inv-loop μ-loop
 loop-holds c = search (needs, weighs-start, weighs-next, weighs-end)
 
--- src/lib.rt:53:26
 shared-slice-read-sum : tie.Need-shared-slice-read-sum Inv-loop μ-loop
 shared-slice-read-sum c = search (needs, weighs-start, weighs-next, weighs-end)
 
--- src/lib.rt:53:26
 cast-sum : tie.Need-cast-sum Inv-loop μ-loop
 cast-sum c = omega (arith, c .shared-slice-known2 .given (c .before .before .loop .i))
 
--- src/lib.rt:53:16
 mul-sum : tie.Need-mul-sum Inv-loop μ-loop
 mul-sum c = omega (arith, weighs-term _ _ _ _ _ (c .before .before .loop .inv) (c .before .loop-test .taken) (omega (arith, c .shared-slice-known2 .given (c .before .before .loop .i))))
 
--- src/lib.rt:53:9
 add-sum : tie.Need-add-sum Inv-loop μ-loop
 add-sum c = omega (arith, weighs-term _ _ _ _ _ (c .before .before .loop .inv) (c .before .loop-test .taken) (omega (arith, c .shared-slice-known2 .given (c .before .before .loop .i))))
 
--- src/lib.rt:54:9
 add-weight : tie.Need-add-weight Inv-loop μ-loop
 add-weight c = search (needs, weighs-start, weighs-next, weighs-end)
 
--- src/lib.rt:55:9
 add-i : tie.Need-add-i Inv-loop μ-loop
 add-i c = search (needs, weighs-start, weighs-next, weighs-end)
 
--- src/lib.rt:52:5
 loop-less : tie.Need-loop-less Inv-loop μ-loop
 loop-less c = search (needs, weighs-start, weighs-next, weighs-end)
 
--- src/lib.rt:52:5
 loop-again : tie.Need-loop-again Inv-loop μ-loop
 loop-again c = weighs-next _ _ _ _ _ (c .before .before .loop .inv) (c .before .loop-test .taken) (omega (arith, c .shared-slice-known2 .given (c .before .before .loop .i)))
 
--- src/lib.rt:45:1
 returns : tie.Need-returns Inv-loop μ-loop
 returns c = search (needs, weighs-start, weighs-next, weighs-end)
 

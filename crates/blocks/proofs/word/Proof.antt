@@ -5,55 +5,42 @@ use Rattle.blocks.proofs.Reading.{word-inside, word-past}
 use Rattle.blocks.proofs.word.Statement.{statement}
 use Rattle.blocks.proofs.word.Tie as tie
 
--- src/lib.rt:30:18
 mul-at : tie.Need-mul-at
 mul-at c = search needs
 
--- src/lib.rt:30:32
 mul-at-2 : tie.Need-mul-at-2
 mul-at-2 c = search needs
 
--- src/lib.rt:30:18
 add-at : tie.Need-add-at
 add-at c = search needs
 
--- src/lib.rt:31:17
 shared-slice-read-word-of : tie.Need-shared-slice-read-word-of
 shared-slice-read-word-of c = search needs
 
--- src/lib.rt:31:34
 add-word-of : tie.Need-add-word-of
 add-word-of c = search needs
 
--- src/lib.rt:31:28
 shared-slice-read-word-of-2 : tie.Need-shared-slice-read-word-of-2
 shared-slice-read-word-of-2 c = search needs
 
--- src/lib.rt:31:49
 add-word-of-2 : tie.Need-add-word-of-2
 add-word-of-2 c = search needs
 
--- src/lib.rt:31:43
 shared-slice-read-word-of-3 : tie.Need-shared-slice-read-word-of-3
 shared-slice-read-word-of-3 c = search needs
 
--- src/lib.rt:31:64
 add-word-of-3 : tie.Need-add-word-of-3
 add-word-of-3 c = search needs
 
--- src/lib.rt:31:58
 shared-slice-read-word-of-4 : tie.Need-shared-slice-read-word-of-4
 shared-slice-read-word-of-4 c = search needs
 
--- src/lib.rt:31:9
 word-of-requires : tie.Need-word-of-requires
 word-of-requires c κs = search needs
 
--- src/lib.rt:25:1
 returns : tie.Need-returns
 returns c = search (needs, word-inside, word-past)
 
--- src/lib.rt:25:1
 returns-2 : tie.Need-returns-2
 returns-2 c = search (needs, word-inside, word-past)
 

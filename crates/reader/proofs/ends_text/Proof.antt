@@ -11,39 +11,30 @@ Inv-loop w r t₀ v₀ left₀ t v left = Ends t₀ w r t v left
 abbrev μ-loop : tie.MeasureT-loop
 μ-loop w r t₀ v₀ left₀ t v left = left
 
--- src/lib.rt:39:5
 loop-holds : tie.Need-loop-holds Inv-loop μ-loop
 loop-holds c = search (needs, ending)
 
--- src/lib.rt:40:27
 cast-next : tie.Need-cast-next Inv-loop μ-loop
 cast-next c = search (needs, ending)
 
--- src/lib.rt:40:9
 next-requires : tie.Need-next-requires Inv-loop μ-loop
 next-requires c κs = search (needs, ending)
 
--- src/lib.rt:42:9
 sub-left : tie.Need-sub-left Inv-loop μ-loop
 sub-left c = search (needs, ending)
 
--- src/lib.rt:39:5
 loop-less : tie.Need-loop-less Inv-loop μ-loop
 loop-less c = search (needs, ending)
 
--- src/lib.rt:39:5
 loop-again : tie.Need-loop-again Inv-loop μ-loop
 loop-again c = search (needs, ending)
 
--- src/lib.rt:44:17
 is-done-requires : tie.Need-is-done-requires Inv-loop μ-loop
 is-done-requires c κs = search (needs, ending)
 
--- src/lib.rt:33:1
 returns : tie.Need-returns Inv-loop μ-loop
 returns c = search (needs, ending)
 
--- src/lib.rt:33:1
 returns-2 : tie.Need-returns-2 Inv-loop μ-loop
 returns-2 c = search (needs, ending)
 

@@ -7,23 +7,18 @@ use Rattle.reader.specs.FixedLaws.{forward-in, forward-past}
 use Rattle.reader.proofs.skip_fixed.Statement.{statement}
 use Rattle.reader.proofs.skip_fixed.Tie as tie
 
--- src/lib.rt:21:17
 mul-words : tie.Need-mul-words
 mul-words c = let h : c .args .count ≤ 4294967295 = omega arith in let k : c .args .size ≤ 4294967295 = omega arith in omega (arith, mul-le-mul h k)
 
--- src/lib.rt:23:9
 returns : tie.Need-returns
 returns c = forward-past _ _ _ (omega arith)
 
--- src/lib.rt:28:20
 add-t10 : tie.Need-add-t10
 add-t10 c = search needs
 
--- src/lib.rt:18:1
 returns-2 : tie.Need-returns-2
 returns-2 c = forward-past _ _ _ (omega arith)
 
--- src/lib.rt:18:1
 returns-3 : tie.Need-returns-3
 returns-3 c = forward-in _ _ _ (omega arith)
 

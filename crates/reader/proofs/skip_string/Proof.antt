@@ -11,55 +11,42 @@ Inv-loop bytes n at length left₀ p₀ s₀ left p s = Texts bytes n at length 
 abbrev μ-loop : tie.MeasureT-loop
 μ-loop bytes n at length left₀ p₀ s₀ left p s = left
 
--- src/lib.rt:72:9
 returns : tie.Need-returns Inv-loop μ-loop
 returns c = search (needs, texting)
 
--- src/lib.rt:74:9
 word-requires : tie.Need-word-requires Inv-loop μ-loop
 word-requires c κs = search (needs, texting)
 
--- src/lib.rt:76:17
 add-p : tie.Need-add-p Inv-loop μ-loop
 add-p c = search (needs, texting)
 
--- src/lib.rt:78:5
 loop-holds : tie.Need-loop-holds Inv-loop μ-loop
 loop-holds c = search (needs, texting)
 
--- src/lib.rt:80:13
 returns-2 : tie.Need-returns-2 Inv-loop μ-loop
 returns-2 c = search (needs, texting)
 
--- src/lib.rt:82:32
 word-requires-2 : tie.Need-word-requires-2 Inv-loop μ-loop
 word-requires-2 c κs = search (needs, texting)
 
--- src/lib.rt:82:9
 next-word-requires : tie.Need-next-word-requires Inv-loop μ-loop
 next-word-requires c κs = search (needs, texting)
 
--- src/lib.rt:83:9
 add-p-2 : tie.Need-add-p-2 Inv-loop μ-loop
 add-p-2 c = search (needs, texting)
 
--- src/lib.rt:84:9
 sub-left : tie.Need-sub-left Inv-loop μ-loop
 sub-left c = search (needs, texting)
 
--- src/lib.rt:78:5
 loop-less : tie.Need-loop-less Inv-loop μ-loop
 loop-less c = search (needs, texting)
 
--- src/lib.rt:78:5
 loop-again : tie.Need-loop-again Inv-loop μ-loop
 loop-again c = texts-next _ _ _ _ _ _ _ _ (c .before .before .before .before .loop .inv) (c .before .before .before .loop-test .taken) (c .before .before .if2 .left) (c .before .word2 .ensures) (c .next-word .ensures)
 
--- src/lib.rt:86:5
 skip-rest-requires : tie.Need-skip-rest-requires Inv-loop μ-loop
 skip-rest-requires c κs = search (needs, texting)
 
--- src/lib.rt:68:1
 returns-3 : tie.Need-returns-3 Inv-loop μ-loop
 returns-3 c = search (needs, texting)
 

@@ -5,47 +5,36 @@ use Rattle.utf8.proofs.Stepping.{first-done, first-tail1, first-E0, fir
 use Rattle.utf8.proofs.first.Statement.{statement}
 use Rattle.utf8.proofs.first.Tie as tie
 
--- src/lib.rt:27:9
 returns : tie.Need-returns
 returns c = first-done _ (omega arith)
 
--- src/lib.rt:23:1
 returns-2 : tie.Need-returns-2
 returns-2 c = search (needs, first-E0, first-ED, first-F0, first-F4)
 
--- src/lib.rt:23:1
 returns-3 : tie.Need-returns-3
 returns-3 c = search (needs, first-E0, first-ED, first-F0, first-F4)
 
--- src/lib.rt:23:1
 returns-4 : tie.Need-returns-4
 returns-4 c = search (needs, first-E0, first-ED, first-F0, first-F4)
 
--- src/lib.rt:23:1
 returns-5 : tie.Need-returns-5
 returns-5 c = search (needs, first-E0, first-ED, first-F0, first-F4)
 
--- src/lib.rt:23:1
 returns-6 : tie.Need-returns-6
 returns-6 c = first-tail1 _ (omega arith) (omega arith)
 
--- src/lib.rt:23:1
 returns-7 : tie.Need-returns-7
 returns-7 c = first-tail2 _ (omega arith) (omega arith)
 
--- src/lib.rt:23:1
 returns-8 : tie.Need-returns-8
 returns-8 c = first-tail2-late _ (omega arith) (omega arith)
 
--- src/lib.rt:23:1
 returns-9 : tie.Need-returns-9
 returns-9 c = first-tail3 _ (omega arith) (omega arith)
 
--- src/lib.rt:23:1
 returns-10 : tie.Need-returns-10
 returns-10 c = first-tail _ (omega arith) (omega arith)
 
--- src/lib.rt:23:1
 returns-11 : tie.Need-returns-11
 returns-11 c = first-past _ (omega arith)
 

@@ -5,15 +5,12 @@ use Rattle.utf8.proofs.Stepping.{is-done, is-not-done}
 use Rattle.utf8.proofs.is_done.Statement.{statement}
 use Rattle.utf8.proofs.is_done.Tie as tie
 
--- src/lib.rt:89:30
 enum-told : tie.Need-enum-told
 enum-told c = search needs
 
--- src/lib.rt:86:1
 returns : tie.Need-returns
 returns c = is-done (c .enum-told .given .1)
 
--- src/lib.rt:86:1
 returns-2 : tie.Need-returns-2
 returns-2 c = is-not-done _ (c .match .keys2)
 

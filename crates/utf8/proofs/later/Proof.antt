@@ -5,15 +5,12 @@ use Rattle.utf8.proofs.Stepping.{later-below, later-above, later-in}
 use Rattle.utf8.proofs.later.Statement.{statement}
 use Rattle.utf8.proofs.later.Tie as tie
 
--- src/lib.rt:45:9
 returns : tie.Need-returns
 returns c = search (needs, later-below, later-above, later-in)
 
--- src/lib.rt:48:9
 returns-2 : tie.Need-returns-2
 returns-2 c = search (needs, later-below, later-above, later-in)
 
--- src/lib.rt:41:1
 returns-3 : tie.Need-returns-3
 returns-3 c = search (needs, later-below, later-above, later-in)
 

@@ -5,39 +5,30 @@ use Rattle.utf8.proofs.Stepping.{word-next}
 use Rattle.utf8.proofs.next_word.Statement.{statement}
 use Rattle.utf8.proofs.next_word.Tie as tie
 
--- src/lib.rt:79:22
 cast-next : tie.Need-cast-next
 cast-next c = search needs
 
--- src/lib.rt:79:9
 next-requires : tie.Need-next-requires
 next-requires c κs = search needs
 
--- src/lib.rt:80:23
 cast-next-2 : tie.Need-cast-next-2
 cast-next-2 c = search needs
 
--- src/lib.rt:80:9
 next-requires-2 : tie.Need-next-requires-2
 next-requires-2 c κs = search needs
 
--- src/lib.rt:81:23
 cast-next-3 : tie.Need-cast-next-3
 cast-next-3 c = search needs
 
--- src/lib.rt:81:9
 next-requires-3 : tie.Need-next-requires-3
 next-requires-3 c κs = search needs
 
--- src/lib.rt:82:14
 cast-next-4 : tie.Need-cast-next-4
 cast-next-4 c = search needs
 
--- src/lib.rt:82:5
 next-requires-4 : tie.Need-next-requires-4
 next-requires-4 c κs = search needs
 
--- src/lib.rt:73:1
 returns : tie.Need-returns
 returns c = search (needs, word-next)
 
