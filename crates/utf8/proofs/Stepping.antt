@@ -6,15 +6,16 @@ use mathlib.Core.Bool.{Bool, true, false, cond, _&&_, and-false}
 use native.Mathlib.Omega.{arith}
 use types.Run.{OneOf, miss}
 use denote.Enum.Declared.{tagOf}
-use lib.Dec.{leb}
+use lib.Dec.{leb, ltb}
 use lib.ListN.{length, getD}
-use borrow.Author.Tests.{le-leb, lt-leb}
-use Rattle.lists.specs.ListLaws.{both}
+use borrow.Author.Tests.{le-leb, lt-leb, le-ltb, lt-ltb, ltb-true}
+use Rattle.lists.specs.Lists.{all}
+use Rattle.lists.specs.ListLaws.{both, and-first, and-second}
 use Rattle.utf8.specs.declared.State.{State}
 use Rattle.utf8.proofs.State.{the-type}
 use Rattle.utf8.specs.declared.State.the-variants.{Done, Tail1, Tail2, Tail3, AfterE0, AfterED, AfterF0, AfterF4, Wrong}
 use Rattle.utf8.specs.Utf8.{Range, _to_, chars, within, Place, wrong, due, begin, next, after, done}
-use Rattle.utf8.specs.State.{meaning, octets}
+use Rattle.utf8.specs.State.{meaning, octets, ascii}
 use Rattle.utf8.specs.GrammarLaws.{begin-row}
 
 -- ── the first octet ──
@@ -160,6 +161,48 @@ pub word-next : (w : ℕ) (p : Place) {p₁ p₂ p₃ q : Place} → p₁ ≡ ne
 unfolding after octets
 word-next w p e₁ e₂ e₃ e₄ =
     e₄ ∙ ap (λ x. next x (w / 256 / 256 / 256 % 256)) (e₃ ∙ ap (λ x. next x (w / 256 / 256 % 256)) (e₂ ∙ ap (λ x. next x (w / 256 % 256)) e₁))
+
+-- ── a word of ASCII ──
+
+module _ (w : ℕ) where
+  pub ascii-not1 : 0x80 ≤ w % 256 → false ≡ ascii w
+  unfolding ascii octets
+  ascii-not1 h = rw (le-ltb (w % 256) 0x80 h)
+
+  pub ascii-not2 : w % 256 < 0x80 → 0x80 ≤ w / 256 % 256 → false ≡ ascii w
+  unfolding ascii octets
+  ascii-not2 g h = rw (lt-ltb (w % 256) 0x80 g, le-ltb (w / 256 % 256) 0x80 h)
+
+  pub ascii-not3 : w % 256 < 0x80 → w / 256 % 256 < 0x80 → 0x80 ≤ w / 256 / 256 % 256 → false ≡ ascii w
+  unfolding ascii octets
+  ascii-not3 f g h = rw (lt-ltb (w % 256) 0x80 f, lt-ltb (w / 256 % 256) 0x80 g, le-ltb (w / 256 / 256 % 256) 0x80 h)
+
+  pub ascii-last : w % 256 < 0x80 → w / 256 % 256 < 0x80 → w / 256 / 256 % 256 < 0x80 → ltb (w / 256 / 256 / 256 % 256) 0x80 ≡ ascii w
+  unfolding ascii octets
+  ascii-last f g h = rw (lt-ltb (w % 256) 0x80 f, lt-ltb (w / 256 % 256) 0x80 g, lt-ltb (w / 256 / 256 % 256) 0x80 h) (sym (go (ltb (w / 256 / 256 / 256 % 256) 0x80)))
+    where
+      go : (b : Bool) → (b && true) ≡ b
+      go true = refl
+      go false = refl
+
+pub ruleset asciis = (ascii-not1, ascii-not2, ascii-not3, ascii-last)
+
+done-place : (p : Place) → done p ≡ true → p ≡ due []
+done-place (due []) e = refl
+done-place (due (r ∷ rs)) e = let z : _≡_ {A = ℕ} 0 1 = cc in absurd (omega arith)
+done-place wrong e = let z : _≡_ {A = ℕ} 0 1 = cc in absurd (omega arith)
+
+all-ascii : (bs : List ℕ) → all (λ b. ltb b 0x80) bs ≡ true → after (due []) bs ≡ due []
+unfolding after next meaning
+all-ascii [] h = refl
+all-ascii (b ∷ bs) h =
+    let t = all (λ b. ltb b 0x80) bs in
+    let l : b < 0x80 = ltb-true b 0x80 (and-first (ltb b 0x80) t h) in
+    ap (λ p. after p bs) (sym (first-done b (omega arith))) ∙ all-ascii bs (and-second (ltb b 0x80) t h)
+
+pub word-ascii : (s : State) (w : ℕ) {x y : Bool} → x ≡ true → x ≡ ascii w → y ≡ true → y ≡ done (meaning s) → meaning Done ≡ after (meaning s) (octets w)
+unfolding ascii meaning
+word-ascii s w h e k f = sym (ap (λ p. after p (octets w)) (done-place (meaning s) (sym f ∙ k)) ∙ all-ascii (octets w) (sym e ∙ h))
 
 -- ── nothing to come ──
 
