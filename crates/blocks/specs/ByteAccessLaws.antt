@@ -59,6 +59,14 @@ written-block ws i h =
     getD-mapFrom f k (x ∷ xs) (suc i) a b h =
         let e : suc k + i ≡ k + suc i = omega arith in getD-mapFrom f (suc k) xs i a b (omega arith) ∙ ap (λ n. f n (getD xs i a)) e
 
+-- zeros at the end are what is read past it
+pub getD-zeros : (ws : List ℕ) (n j : ℕ) → getD (ws ++ replicate n 0) j 0 ≡ getD ws j 0
+getD-zeros [] zero j = refl
+getD-zeros [] (suc n) zero = refl
+getD-zeros [] (suc n) (suc j) = getD-zeros [] n j
+getD-zeros (w ∷ ws) n zero = refl
+getD-zeros (w ∷ ws) n (suc j) = getD-zeros ws n j
+
 -- byte m of word j of a block
 pub blockOf-byte : (k : ℕ) (ws : List ℕ) (j m : ℕ) → j < 127 → m < 4 → getD (blockOf k ws) (4 * j + m) 0 ≡ getD (bytesOf 4 (getD ws j 0)) m 0
 unfolding blockOf padded
@@ -66,10 +74,3 @@ blockOf-byte k ws j m h l =
     List·getD-append (padded ws) (bytesOf 4 (checkWord k (padded ws))) 0 (4 * j + m) (omega (arith, length-padded ws))
     ∙ getD-concatMap (bytesOf 4) 4 (length-bytesOf 4) (filled ws) j m 0 0 (omega (arith, length-filled ws)) l
     ∙ ap (λ w. getD (bytesOf 4 w) m 0) (getD-take blockWords (ws ++ replicate blockWords 0) j 0 h ∙ getD-zeros ws blockWords j)
-  where
-    getD-zeros : (ws : List ℕ) (n j : ℕ) → getD (ws ++ replicate n 0) j 0 ≡ getD ws j 0
-    getD-zeros [] zero j = refl
-    getD-zeros [] (suc n) zero = refl
-    getD-zeros [] (suc n) (suc j) = getD-zeros [] n j
-    getD-zeros (w ∷ ws) n zero = refl
-    getD-zeros (w ∷ ws) n (suc j) = getD-zeros ws n j

@@ -70,14 +70,14 @@ derived (b ∷ bs) (r ∷ rs) h = go (within r b) refl h (derived bs rs)
 
 -- ── what is derived is accepted ──
 
-abbrev low : Range → ℕ
+abbrev pub low : Range → ℕ
 low (a to z) = a
 
-abbrev high : Range → ℕ
+abbrev pub high : Range → ℕ
 high (a to z) = z
 
 -- the rows' first ranges rise from n on, one above the other
-abbrev rising : ℕ → List (List Range) → Bool
+abbrev pub rising : ℕ → List (List Range) → Bool
 rising n [] = true
 rising n ([] ∷ rows) = false
 rising n ((r ∷ rs) ∷ rows) = (leb n (low r) && leb (low r) (high r)) && rising (suc (high r)) rows
@@ -103,7 +103,7 @@ not-begun ((q ∷ qs) ∷ rows) n b {r} {rs} k m w =
     go l u (inr m) ih = omega (arith, ih m)
 
 -- the row that a character is made by is the one that its first octet begins
-begin-row : (rows : List (List Range)) (n b : ℕ) {r : Range} {rs : List Range} → rising n rows ≡ true → List·Memᴰ (r ∷ rs) rows → within r b ≡ true → begin rows b ≡ due rs
+pub begin-row : (rows : List (List Range)) (n b : ℕ) {r : Range} {rs : List Range} → rising n rows ≡ true → List·Memᴰ (r ∷ rs) rows → within r b ≡ true → begin rows b ≡ due rs
 unfolding begin
 begin-row [] n b k m w = absurd (List·Memᴰ·not-nil m)
 begin-row ([] ∷ rows) n b k m w = false-true k

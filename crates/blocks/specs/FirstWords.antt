@@ -1,0 +1,39 @@
+-- The first n words, as code reads them: a word at a time, below n.
+use Prim.Native.Nat.{ℕ, _+_, _≤_, _<_}
+use mathlib.Core.Path.{_≡_, refl, sym, ap, ap₂, _∙_}
+use mathlib.Core.List.{List, _++_}
+use mathlib.Core.Bool.{true}
+use mathlib.Core.Option.{some}
+use native.Mathlib.Omega.{arith}
+use lib.ListN.{length, getD, take, replicate, length-append, length-replicate}
+use lib.Seq.{length-take-le, getD-take, take-append-le}
+use Rattle.lists.specs.Lists.{all}
+use Rattle.lists.specs.ListLaws.{all-take, all-append, all-replicate}
+use Rattle.blocks.specs.Blocks.{words, lengthWord, framed}
+use Rattle.blocks.specs.Frame.{firstWords}
+use Rattle.blocks.specs.ByteLaws.{isByte, isWord}
+use Rattle.blocks.specs.WordLaws.{length-words}
+use Rattle.blocks.specs.FramedLaws.{framed-intact, words-small}
+use Rattle.blocks.specs.ByteAccessLaws.{getD-zeros}
+
+pub length-firstWords : (b : List ℕ) (n : ℕ) → length (firstWords b n) ≡ n
+unfolding firstWords
+length-firstWords b n = length-take-le n (words b ++ replicate n 0) (omega (arith, length-append (words b) (replicate n 0), length-replicate {A = ℕ} n 0))
+
+pub firstWords-at : (b : List ℕ) (n i : ℕ) → i < n → getD (firstWords b n) i 0 ≡ getD (words b) i 0
+unfolding firstWords
+firstWords-at b n i h = getD-take n (words b ++ replicate n 0) i 0 h ∙ getD-zeros (words b) n i
+
+-- of a frame they are its words
+pub firstWords-framed : (b ws : List ℕ) → framed b ≡ some ws → firstWords b (length ws) ≡ ws
+unfolding firstWords
+firstWords-framed b ws e =
+    let i = framed-intact b ws e in
+    let m = lengthWord (words b) in
+    let w : m ≤ length (words b) = omega (arith, length-words b, i .0 .in-block) in
+    let l : length ws ≡ m = ap length (i .1) ∙ length-take-le m (words b) w in
+    ap (λ n. take n (words b ++ replicate n 0)) l ∙ take-append-le m (words b) (replicate m 0) w ∙ sym (i .1)
+
+pub firstWords-small : (b : List ℕ) (n : ℕ) → all isByte b ≡ true → all isWord (firstWords b n) ≡ true
+unfolding firstWords
+firstWords-small b n h = all-take isWord n (words b ++ replicate n 0) (all-append isWord (words b) (replicate n 0) (words-small b h) (all-replicate isWord n 0 refl))
