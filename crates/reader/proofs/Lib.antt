@@ -1,1 +1,2 @@
 pub mod TextReading
+pub mod Records

@@ -1,8 +1,8 @@
--- What code says of readers: where it stands after a value, words passed unread, and the rest of a string.
-use Prim.Native.Nat.{ℕ, zero, suc, _+_, _/_, _%_}
+-- What code says of readers: where it stands after a value, and the rest of a string.
+use Prim.Native.Nat.{ℕ, zero, suc, _/_, _%_}
 use mathlib.Core.List.{List}
 use mathlib.Core.Bool.{Bool, cond, _&&_}
-use lib.Dec.{eqb, leb}
+use lib.Dec.{eqb}
 use lib.ListN.{take, drop}
 use Rattle.lists.specs.Lists.{all, concatMap}
 use Rattle.blocks.specs.Blocks.{bytesOf}
@@ -15,10 +15,6 @@ use Rattle.reader.specs.Text.{wordsFor}
 unfoldable pub stepOf : {A : Type 0} → Got A → Step
 stepOf broken = Broken
 stepOf (got a p) = Next p
-
--- k words further, if they end by n
-unfoldable pub forward : ℕ → ℕ → ℕ → Step
-forward n at k = cond (leb (at + k) n) (Next (at + k)) Broken
 
 -- m bytes that go on from a place to the end of a character, and zeros after them
 unfoldable pub goodRest : Place → ℕ → List ℕ → Bool

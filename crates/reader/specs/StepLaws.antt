@@ -1,5 +1,5 @@
 -- An answer of code, read back; a word of the first n, as code reads it.
-use Prim.Native.Nat.{ℕ, _+_, _≤_, _<_}
+use Prim.Native.Nat.{ℕ, suc, _+_, _≤_, _<_}
 use mathlib.Core.Path.{_≡_, refl, sym, ap, ap₂, _∙_}
 use mathlib.Core.List.{List}
 use native.Mathlib.Omega.{arith}
@@ -55,3 +55,7 @@ module _ (b : List ℕ) (n at : ℕ) where
   pub word-stop : n ≤ at → Broken ≡ stepOf (word (firstWords b n) at)
   unfolding stepOf
   word-stop h = sym (ap stepOf (word-none h))
+
+-- a code that is at least n, and not n
+pub beyond : (n w : ℕ) → n ≤ w → (w ≡ n → ⊥) → suc n ≤ w
+beyond n w h k = omega arith

@@ -1,0 +1,5 @@
+pub mod TypeSteps
+pub mod ConstSteps
+pub mod FuncSteps
+pub mod TailSteps
+pub mod LayoutSteps

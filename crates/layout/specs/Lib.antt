@@ -1,0 +1,4 @@
+pub mod Layout
+pub mod Halves
+pub mod Parts
+pub mod LayoutLaws
