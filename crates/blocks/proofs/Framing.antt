@@ -6,14 +6,13 @@ use mathlib.Core.Bool.{Bool, true, false, _&&_}
 use mathlib.Core.Option.{Option, none, some}
 use native.Mathlib.Omega.{arith}
 use native.Mathlib.Numerals.{add-one}
-use lib.Dec.{eqb, ltb}
+use lib.Dec.{eqb}
 use lib.ListN.{length, getD, take, drop, drop-of-length-le}
 use lib.Seq.{drop-cons, drop-drop, length-take-le}
 use borrow.Author.Tests.{lt-ltb, eq-eqb, ne-eqb}
 use Rattle.lists.specs.Lists.{all, pieces}
-use Rattle.blocks.specs.declared.Frame.{Frame}
 use Rattle.blocks.specs.declared.Frame.the-variants.{Broken, Words}
-use Rattle.blocks.specs.Blocks.{blockBytes, blockWords, checked, blockCount, blocks, allChecked, intactBlocks, words, lengthWord, framed}
+use Rattle.blocks.specs.Blocks.{blockBytes, checked, blockCount, blocks, allChecked, words, lengthWord, framed}
 use Rattle.blocks.specs.Frame.{frameOf, blockChecked, zeroFrom}
 use Rattle.blocks.specs.WordLaws.{length-words}
 use Rattle.blocks.specs.FramedLaws.{Intact, framed-intact, intact-framed}
@@ -45,7 +44,10 @@ module _ (b : List ℕ) where
   pub checks-next : (left k : ℕ) {r : Bool} → Checks b left k → 0 < left → r ≡ true → r ≡ blockChecked b k → Checks b (left - 1) (k + 1)
   checks-next left k s h t e = record {
     count = omega (arith, s .count);
-    same = checks-turn left k s h e ∙ ap (λ x. x && allChecked (suc k) (pieces blockBytes (left - 1) (drop (blockBytes * suc k) b))) t ∙ ap (λ n. allChecked n (pieces blockBytes (left - 1) (drop (blockBytes * n) b))) (sym (add-one k));
+    same =
+        checks-turn left k s h e
+        ∙ ap (λ x. x && allChecked (suc k) (pieces blockBytes (left - 1) (drop (blockBytes * suc k) b))) t
+        ∙ ap (λ n. allChecked n (pieces blockBytes (left - 1) (drop (blockBytes * n) b))) (sym (add-one k));
   }
 
   pub checks-stop : (left k : ℕ) {r : Bool} → Checks b left k → 0 < left → r ≡ false → r ≡ blockChecked b k → false ≡ allChecked 0 (blocks b)

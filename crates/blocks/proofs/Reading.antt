@@ -1,19 +1,18 @@
 -- For the code that reads words and check sums: one law for each return and each turn of a loop.
-use Prim.Native.Nat.{ℕ, suc, _+_, _-_, _*_, _/_, _%_, _≤_, _<_}
+use Prim.Native.Nat.{ℕ, _+_, _-_, _*_, _/_, _%_, _≤_, _<_}
 use mathlib.Core.Path.{_≡_, refl, sym, ap, ap₂, _∙_}
 use mathlib.Core.List.{List}
-use mathlib.Core.Bool.{Bool, true, false, _&&_}
+use mathlib.Core.Bool.{false}
 use native.Mathlib.Omega.{arith}
 use native.Mathlib.Numerals.{add-one}
 use native.Mathlib.Nat.{mul-le-mul}
 use native.Mathlib.Decide.{decLt}
-use lib.Dec.{eqb, ltb}
+use lib.Dec.{eqb}
 use lib.ListN.{length, getD, take, drop, List·getD-eq-default}
 use lib.Seq.{take-all, take-take, drop-drop, getD-drop}
-use borrow.Author.Tests.{lt-ltb, le-ltb, eq-eqb, ne-eqb}
-use Rattle.lists.specs.Lists.{pieces}
+use borrow.Author.Tests.{lt-ltb, le-ltb}
 use Rattle.lists.specs.ListLaws.{drop-take}
-use Rattle.blocks.specs.Blocks.{blockBytes, checkedBytes, checkModulus, number, weighed, checkWord, checked, blockCount, blocks, allChecked, words}
+use Rattle.blocks.specs.Blocks.{blockBytes, checkedBytes, number, weighed, checkWord, checked, blockCount, words}
 use Rattle.blocks.specs.Frame.{blockChecked}
 use Rattle.blocks.specs.WordLaws.{length-words, number-four, byteOf, wordAt, word-bytes-at}
 use Rattle.blocks.specs.ByteAccessLaws.{weighed-step}

@@ -1,12 +1,12 @@
 -- For the code that passes a string: one law for each return and each turn of a loop.
 use Prim.Native.Nat.{ℕ, zero, suc, _+_, _-_, _*_, _/_, _%_, _^_, _≤_, _<_}
-use mathlib.Core.Path.{_≡_, refl, sym, ap, ap₂, _∙_}
+use mathlib.Core.Path.{_≡_, refl, sym, ap, _∙_}
 use mathlib.Core.List.{List, [], _∷_, append-nil}
-use mathlib.Core.Bool.{Bool, true, false, cond, _&&_, and-false}
+use mathlib.Core.Bool.{Bool, true, false, cond, _&&_, and-true, and-false}
 use native.Mathlib.Omega.{arith}
 use native.Mathlib.Decide.{decLt}
 use lib.Dec.{eqb}
-use lib.ListN.{length, getD, take, drop}
+use lib.ListN.{length, getD, take}
 use borrow.Author.Tests.{eq-eqb, ne-eqb}
 use Rattle.lists.specs.Lists.{all, concatMap}
 use Rattle.blocks.specs.Blocks.{bytesOf, words}
@@ -43,11 +43,7 @@ module _ (s : State) (w r : ℕ) where
   ends-with t v left e h = let z : left ≡ 0 = omega arith in e .same ∙ ap (λ n. endsText (meaning t) n v) z
 
   pub ends-done : (t : State) (v left : ℕ) {x : Bool} → Ends s w r t v left → left ≤ 0 → v ≡ 0 → x ≡ done (meaning t) → x ≡ endsText (meaning s) r w
-  ends-done t v left {x} e h z k = k ∙ sym (ends-with t v left e h ∙ ap (λ b. done (meaning t) && b) (eq-eqb v 0 z) ∙ go (done (meaning t)))
-    where
-      go : (b : Bool) → (b && true) ≡ b
-      go true = refl
-      go false = refl
+  ends-done t v left {x} e h z k = k ∙ sym (ends-with t v left e h ∙ ap (λ b. done (meaning t) && b) (eq-eqb v 0 z) ∙ and-true (done (meaning t)))
 
   pub ends-more : (t : State) (v left : ℕ) → Ends s w r t v left → left ≤ 0 → (v ≡ 0 → ⊥) → false ≡ endsText (meaning s) r w
   ends-more t v left e h z = sym (ends-with t v left e h ∙ ap (λ b. done (meaning t) && b) (ne-eqb v 0 z) ∙ and-false (done (meaning t)))
@@ -126,11 +122,7 @@ rest-none p m ws q h e =
 -- nothing more
 rest-over : (p : Place) (m : ℕ) (ws : List ℕ) (q : ℕ) {x : Bool} → m ≡ 0 → done p ≡ x → stepOf (textRest p m ws q) ≡ cond x (Next q) Broken
 unfolding many wordsFor goodRest after
-rest-over p m ws q z e = ap (λ m. stepOf (textRest p m ws q)) z ∙ rest-is p 0 ws q ∙ go (done p) e
-  where
-    go : (d : Bool) {x : Bool} → d ≡ x → cond (d && true) (Next q) Broken ≡ cond x (Next q) Broken
-    go true e = ap (λ y. cond y (Next q) Broken) e
-    go false e = ap (λ y. cond y (Next q) Broken) e
+rest-over p m ws q z e = ap (λ m. stepOf (textRest p m ws q)) z ∙ rest-is p 0 ws q ∙ ap (λ y. cond y (Next q) Broken) (and-true (done p) ∙ e)
 
 -- the last word, of fewer than four bytes
 rest-last : (p : Place) (m : ℕ) (ws : List ℕ) (q : ℕ) {w : ℕ} {x : Bool} → 0 < m → m < 4 → word ws q ≡ got w (q + 1) → w < 4294967296 → endsText p m w ≡ x

@@ -2,11 +2,11 @@
 use Prim.Native.Nat.{ℕ, zero, suc, _/_, _%_, _≤_, _<_}
 use mathlib.Core.Path.{_≡_, refl, sym, ap, _∙_}
 use mathlib.Core.List.{List, [], _∷_, List·Memᴰ, List·Memᴰ·head, List·Memᴰ·tail}
-use mathlib.Core.Bool.{Bool, true, false, cond, _&&_, and-false}
+use mathlib.Core.Bool.{Bool, true, false, cond, _&&_, and-true, and-false}
 use native.Mathlib.Omega.{arith}
 use types.Run.{OneOf, miss}
 use denote.Enum.Declared.{tagOf}
-use lib.Dec.{leb, ltb}
+use lib.Dec.{ltb}
 use lib.ListN.{length, getD}
 use borrow.Author.Tests.{le-leb, lt-leb, le-ltb, lt-ltb, ltb-true}
 use Rattle.lists.specs.Lists.{all}
@@ -179,11 +179,9 @@ module _ (w : ℕ) where
 
   pub ascii-last : w % 256 < 0x80 → w / 256 % 256 < 0x80 → w / 256 / 256 % 256 < 0x80 → ltb (w / 256 / 256 / 256 % 256) 0x80 ≡ ascii w
   unfolding ascii octets
-  ascii-last f g h = rw (lt-ltb (w % 256) 0x80 f, lt-ltb (w / 256 % 256) 0x80 g, lt-ltb (w / 256 / 256 % 256) 0x80 h) (sym (go (ltb (w / 256 / 256 / 256 % 256) 0x80)))
-    where
-      go : (b : Bool) → (b && true) ≡ b
-      go true = refl
-      go false = refl
+  ascii-last f g h =
+      rw (lt-ltb (w % 256) 0x80 f, lt-ltb (w / 256 % 256) 0x80 g, lt-ltb (w / 256 / 256 % 256) 0x80 h)
+      (sym (and-true (ltb (w / 256 / 256 / 256 % 256) 0x80)))
 
 pub ruleset asciis = (ascii-not1, ascii-not2, ascii-not3, ascii-last)
 

@@ -1,6 +1,5 @@
 -- `blocks::all_checked` meets its contract.
 use borrow.Author.Needs.{needs}
-use native.Mathlib.Omega.{arith}
 use Rattle.blocks.proofs.Framing.{Checks, checking}
 use Rattle.blocks.proofs.all_checked.Statement.{statement}
 use Rattle.blocks.proofs.all_checked.Tie as tie

@@ -1,6 +1,5 @@
 -- `blocks::is_checked` meets its contract.
 use borrow.Author.Needs.{needs}
-use native.Mathlib.Omega.{arith}
 use Rattle.blocks.proofs.Reading.{checked-there, checked-past}
 use Rattle.blocks.proofs.is_checked.Statement.{statement}
 use Rattle.blocks.proofs.is_checked.Tie as tie

@@ -1,6 +1,5 @@
 -- `blocks::is_zero_from` meets its contract.
 use borrow.Author.Needs.{needs}
-use native.Mathlib.Omega.{arith}
 use Prim.Native.Nat.{_-_}
 use Rattle.blocks.proofs.Framing.{Zeros, zeroing}
 use Rattle.blocks.proofs.is_zero_from.Statement.{statement}

@@ -1,6 +1,5 @@
 -- `blocks::read_frame` meets its contract.
 use borrow.Author.Needs.{needs}
-use native.Mathlib.Omega.{arith}
 use borrow.Author.Tests.{not-true, not-false}
 use Rattle.blocks.proofs.Framing.{framing}
 use Rattle.blocks.proofs.read_frame.Statement.{statement}

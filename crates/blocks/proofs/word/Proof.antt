@@ -1,6 +1,5 @@
 -- `blocks::word` meets its contract.
 use borrow.Author.Needs.{needs}
-use native.Mathlib.Omega.{arith}
 use Rattle.blocks.proofs.Reading.{word-inside, word-past}
 use Rattle.blocks.proofs.word.Statement.{statement}
 use Rattle.blocks.proofs.word.Tie as tie

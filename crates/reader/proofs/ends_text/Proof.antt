@@ -1,6 +1,5 @@
 -- `reader::ends_text` meets its contract.
 use borrow.Author.Needs.{needs}
-use native.Mathlib.Omega.{arith}
 use Rattle.reader.proofs.TextReading.{Ends, ending}
 use Rattle.reader.proofs.ends_text.Statement.{statement}
 use Rattle.reader.proofs.ends_text.Tie as tie

@@ -1,6 +1,5 @@
 -- `reader::skip_rest` meets its contract.
 use borrow.Author.Needs.{needs}
-use native.Mathlib.Omega.{arith}
 use Rattle.reader.proofs.TextReading.{resting}
 use Rattle.reader.proofs.skip_rest.Statement.{statement}
 use Rattle.reader.proofs.skip_rest.Tie as tie

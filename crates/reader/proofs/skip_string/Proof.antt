@@ -1,6 +1,5 @@
 -- `reader::skip_string` meets its contract.
 use borrow.Author.Needs.{needs}
-use native.Mathlib.Omega.{arith}
 use Rattle.reader.proofs.TextReading.{Texts, texting, texts-next}
 use Rattle.reader.proofs.skip_string.Statement.{statement}
 use Rattle.reader.proofs.skip_string.Tie as tie

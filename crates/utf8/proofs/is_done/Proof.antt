@@ -1,6 +1,5 @@
 -- `utf8::is_done` meets its contract.
 use borrow.Author.Needs.{needs}
-use native.Mathlib.Omega.{arith}
 use Rattle.utf8.proofs.Stepping.{is-done, is-not-done}
 use Rattle.utf8.proofs.is_done.Statement.{statement}
 use Rattle.utf8.proofs.is_done.Tie as tie

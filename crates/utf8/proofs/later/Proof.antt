@@ -1,6 +1,5 @@
 -- `utf8::later` meets its contract.
 use borrow.Author.Needs.{needs}
-use native.Mathlib.Omega.{arith}
 use Rattle.utf8.proofs.Stepping.{later-below, later-above, later-in}
 use Rattle.utf8.proofs.later.Statement.{statement}
 use Rattle.utf8.proofs.later.Tie as tie

@@ -1,6 +1,5 @@
 -- `utf8::next` meets its contract.
 use borrow.Author.Needs.{needs}
-use native.Mathlib.Omega.{arith}
 use Rattle.utf8.proofs.Stepping.{nexts}
 use Rattle.utf8.proofs.next.Statement.{statement}
 use Rattle.utf8.proofs.next.Tie as tie

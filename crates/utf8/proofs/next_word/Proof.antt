@@ -1,6 +1,5 @@
 -- `utf8::next_word` meets its contract.
 use borrow.Author.Needs.{needs}
-use native.Mathlib.Omega.{arith}
 use Rattle.utf8.proofs.Stepping.{word-next, word-ascii}
 use Rattle.utf8.proofs.next_word.Statement.{statement}
 use Rattle.utf8.proofs.next_word.Tie as tie
