@@ -127,11 +127,11 @@ module _ (b : List ℕ) where
   unfolding zeroFrom lengthWord
   frame-filled {n} f e k = broken-if λ i. let t : zeroFrom (words b) n ≡ true = ap (λ m. all (eqb 0) (drop m (words b))) k ∙ i .zero-after in let z : _≡_ {A = ℕ} 0 1 = cc in omega arith
 
-  pub frame-found : {n w : ℕ} {r z : Bool} → length b % 512 ≡ 0 → 1 ≤ length b / 512 → length b / 512 ≤ 4096 → r ≡ true → r ≡ allChecked 0 (blocks b)
+  pub frame-intact : {n w : ℕ} {r z : Bool} → length b % 512 ≡ 0 → 1 ≤ length b / 512 → length b / 512 ≤ 4096 → r ≡ true → r ≡ allChecked 0 (blocks b)
       → w ≡ 1 → w ≡ getD (words b) 0 0 → n ≡ getD (words b) 1 0 → 127 * (length b / 512 - 1) < n → n ≤ 127 * (length b / 512) → z ≡ true → z ≡ zeroFrom (words b) n
       → Words n ≡ frameOf (framed b)
   unfolding frameOf blocks blockCount lengthWord zeroFrom
-  frame-found {n} h₁ h₂ h₃ t₄ e₄ t₅ e₅ e h₆ h₇ t₈ e₈ =
+  frame-intact {n} h₁ h₂ h₃ t₄ e₄ t₅ e₅ e h₆ h₇ t₈ e₈ =
       let i : Intact b (length b / 512) = record {
         length-is = omega arith;
         some-block = h₂;
@@ -144,4 +144,4 @@ module _ (b : List ℕ) where
       } in
       sym (ap frameOf (intact-framed b i) ∙ ap Words (length-take-le (getD (words b) 1 0) (words b) (omega (arith, length-words b)) ∙ sym e))
 
-pub ruleset framing = (frame-ragged, frame-empty, frame-long, frame-unchecked, frame-edition, frame-early, frame-late, frame-filled, frame-found)
+pub ruleset framing = (frame-ragged, frame-empty, frame-long, frame-unchecked, frame-edition, frame-early, frame-late, frame-filled, frame-intact)

@@ -3,14 +3,16 @@ use Prim.Native.Nat.{ℕ, _≤_, _<_}
 use mathlib.Core.Path.{_≡_, refl, sym, ap, _∙_}
 use mathlib.Core.List.{List, _++_}
 use mathlib.Core.Bool.{true}
-use mathlib.Core.Option.{some}
+use mathlib.Core.Option.{Option, none, some}
 use native.Mathlib.Omega.{arith}
 use lib.ListN.{length, getD, take, replicate, length-append, length-replicate}
 use lib.Seq.{length-take-le, getD-take, take-append-le}
 use Rattle.lists.specs.Lists.{all}
 use Rattle.lists.specs.ListLaws.{all-take, all-append, all-replicate}
 use Rattle.blocks.specs.Blocks.{words, lengthWord, framed}
-use Rattle.blocks.specs.Frame.{firstWords}
+use Rattle.blocks.specs.declared.Frame.{Frame}
+use Rattle.blocks.specs.declared.Frame.the-variants.{Broken, Words}
+use Rattle.blocks.specs.Frame.{frameOf, firstWords}
 use Rattle.blocks.specs.ByteLaws.{isByte, isWord}
 use Rattle.blocks.specs.WordLaws.{length-words}
 use Rattle.blocks.specs.FramedLaws.{framed-intact, words-small}
@@ -37,3 +39,29 @@ firstWords-framed b ws e =
 pub firstWords-small : (b : List ℕ) (n : ℕ) → all isByte b ≡ true → all isWord (firstWords b n) ≡ true
 unfolding firstWords
 firstWords-small b n h = all-take isWord n (words b ++ replicate n 0) (all-append isWord (words b) (replicate n 0) (words-small b h) (all-replicate isWord n 0 refl))
+
+-- ── what code found, read back ──
+
+module _ (b : List ℕ) {r : Frame} where
+  found-inv : (o : Option (List ℕ)) {n : ℕ} {C : Type 0} → r ≡ Words n → r ≡ frameOf o → ((ws : List ℕ) → o ≡ some ws → length ws ≡ n → C) → C
+  unfolding frameOf
+  found-inv none e k f = let z : _≡_ {A = ℕ} 0 1 = cc in absurd (omega arith)
+  found-inv (some ws) e k f = f ws refl (cc)
+
+  pub frame-found : {n : ℕ} → r ≡ Words n → r ≡ frameOf (framed b) → framed b ≡ some (firstWords b n)
+  frame-found e k = found-inv (framed b) e k λ ws f l. f ∙ ap some (sym (firstWords-framed b ws f) ∙ ap (firstWords b) l)
+
+  -- 127 words for each of 4,096 blocks
+  pub frame-few : {n : ℕ} → r ≡ Words n → r ≡ frameOf (framed b) → n ≤ 520192
+  frame-few e k = found-inv (framed b) e k λ ws f l.
+      let i = framed-intact b ws f in
+      let m = lengthWord (words b) in
+      let w : length (take m (words b)) ≡ m = length-take-le m (words b) (omega (arith, length-words b, i .0 .in-block)) in
+      omega (arith, ap length (i .1), w, i .0 .in-block, i .0 .few-blocks)
+
+  pub frame-broken : r ≡ Broken → r ≡ frameOf (framed b) → framed b ≡ none
+  frame-broken e k = go (framed b) k
+    where
+      go : (o : Option (List ℕ)) → r ≡ frameOf o → o ≡ none
+      go none k = refl
+      go (some ws) k = unfold frameOf in let z : _≡_ {A = ℕ} 0 1 = cc in absurd (omega arith)
