@@ -8,7 +8,7 @@ use blocks::word;
 use reader::Step;
 use reader::skip_records;
 
-fn skip_const(sheet: &[u8], n: usize, at: usize) -> Step
+pub fn skip_const(sheet: &[u8], n: usize, at: usize) -> Step
     ensures { λ r. ⌜ r ≡ stepOf (constOf (firstWords (now (sheet .entry)) n) at) ⌝ }
 {
     if at < n {

@@ -157,7 +157,7 @@ fn skip_code_half(sheet: &[u8], n: usize, at: usize) -> Step
     skip_body(sheet, n, tables)
 }
 
-fn skip_function(sheet: &[u8], n: usize, at: usize) -> Step
+pub fn skip_function(sheet: &[u8], n: usize, at: usize) -> Step
     ensures { λ r. ⌜ r ≡ stepOf (functionOf (firstWords (now (sheet .entry)) n) at) ⌝ }
 {
     match skip_frame_half(sheet, n, at) {

@@ -26,7 +26,7 @@ pub fn skip_params(sheet: &[u8], n: usize, at: usize) -> Step
 }
 
 // Module, name and signature, then an optional parameter list.
-fn skip_import(sheet: &[u8], n: usize, at: usize) -> Step
+pub fn skip_import(sheet: &[u8], n: usize, at: usize) -> Step
     ensures { λ r. ⌜ r ≡ stepOf (importOf (firstWords (now (sheet .entry)) n) at) ⌝ }
 {
     if at < n {

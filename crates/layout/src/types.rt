@@ -122,7 +122,7 @@ fn skip_two(sheet: &[u8], n: usize, at: usize) -> Step
     }
 }
 
-fn skip_type(sheet: &[u8], n: usize, at: usize) -> Step
+pub fn skip_type(sheet: &[u8], n: usize, at: usize) -> Step
     ensures { λ r. ⌜ r ≡ stepOf (typeDef (firstWords (now (sheet .entry)) n) at) ⌝ }
 {
     if at < n {

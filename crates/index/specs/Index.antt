@@ -1,0 +1,61 @@
+-- Where the members of a sheet's parts stand.
+use Prim.Native.Nat.{ℕ, _+_}
+use mathlib.Core.List.{List, [], _++_}
+use lib.ListN.{length}
+use Rattle.reader.specs.Reader.{Got, broken, got, Reader, listOf}
+use Rattle.reader.specs.Text.{string}
+use Rattle.sheet.specs.Decode.{typeDef, constOf, importOf, functionOf}
+use Rattle.layout.specs.Layout.{posOf}
+use Rattle.layout.specs.declared.Layout.{Layout}
+use Rattle.index.specs.declared.Index.{Index}
+use Rattle.index.specs.declared.Part.{Part}
+use Rattle.index.specs.declared.Part.the-variants.{Strings, Types, Consts, Imports, Funcs}
+
+-- where a member of the part stands
+unfoldable pub memberOf : Part → Reader ℕ
+memberOf Strings = posOf string
+memberOf Types = posOf typeDef
+memberOf Consts = posOf constOf
+memberOf Imports = posOf importOf
+memberOf Funcs = posOf functionOf
+
+-- the values that were read
+unfoldable pub valuesOf : {A : Type 0} → Got (List A) → List A
+valuesOf broken = []
+valuesOf (got xs q) = xs
+
+-- something was read
+unfoldable pub Whole : {A : Type 0} → Got A → Type 0
+Whole broken = ⊥
+Whole (got a q) = Unit {0}
+
+-- where the members of the list at a position stand
+unfoldable pub startsOf : Part → List ℕ → ℕ → List ℕ
+startsOf part ws at = valuesOf (listOf (memberOf part) ws at)
+
+-- ── the whole index: the five parts side by side ──
+
+-- each part's list is whole where the layout says
+pub record Indexable (ws : List ℕ) (l : Layout) : Type 0 where
+  pub strings : Whole (listOf (memberOf Strings) ws (l .strings))
+  pub types : Whole (listOf (memberOf Types) ws (l .types))
+  pub consts : Whole (listOf (memberOf Consts) ws (l .consts))
+  pub imports : Whole (listOf (memberOf Imports) ws (l .imports))
+  pub funcs : Whole (listOf (memberOf Funcs) ws (l .funcs))
+
+unfoldable pub starts : List ℕ → Layout → List ℕ
+starts ws l =
+    startsOf Strings ws (l .strings)
+    ++ startsOf Types ws (l .types)
+    ++ startsOf Consts ws (l .consts)
+    ++ startsOf Imports ws (l .imports)
+    ++ startsOf Funcs ws (l .funcs)
+
+-- where each part's positions begin among them: the strings' at 0
+unfoldable pub indexOf : List ℕ → Layout → Index
+indexOf ws l =
+    let types = 0 + length (startsOf Strings ws (l .strings)) in
+    let consts = types + length (startsOf Types ws (l .types)) in
+    let imports = consts + length (startsOf Consts ws (l .consts)) in
+    let funcs = imports + length (startsOf Imports ws (l .imports)) in
+    record { strings = 0; types = types; consts = consts; imports = imports; funcs = funcs; end = funcs + length (startsOf Funcs ws (l .funcs)) }

@@ -1,0 +1,100 @@
+-- What the index holds: of an intact sheet, where each member stands; and there is room for it.
+use Prim.Native.Nat.{ℕ, zero, suc, _+_, _*_, _≤_, _<_}
+use mathlib.Core.Path.{_≡_, refl, sym, ap, subst, _∙_}
+use mathlib.Core.List.{List, [], _∷_, _++_}
+use mathlib.Core.Bool.{Bool, true}
+use native.Mathlib.Omega.{arith}
+use lib.ListN.{length, getD, length-append}
+use Rattle.lists.specs.Lists.{all}
+use Rattle.reader.specs.Reader.{Got, broken, got, Reader, andThen, word, many, listOf}
+use Rattle.reader.specs.ReaderLaws.{Codes, then-inv, seq, word-codes}
+use Rattle.reader.specs.ReadLaws.{many-fit}
+use Rattle.layout.specs.Layout.{posOf}
+use Rattle.index.specs.Index.{valuesOf, Whole}
+
+-- ── positions of any list ──
+
+pub many-length : {A : Type 0} (n : ℕ) (f : Reader A) (ws : List ℕ) (p : ℕ) (xs : List A) (q : ℕ) → many n f ws p ≡ got xs q → length xs ≡ n
+unfolding many
+many-length zero f ws p xs q e = let h : [] ≡ xs = cc in ap length (sym h)
+many-length (suc n) f ws p xs q e =
+    then-inv (f ws p) _ e λ a p₁ e₁ e₂. then-inv (many n f ws p₁) _ e₂ λ ys p₂ e₃ e₄.
+    let h : a ∷ ys ≡ xs = cc in ap length (sym h) ∙ ap suc (many-length n f ws p₁ ys p₂ e₃)
+
+-- xs stand from p to q, member i at word i of ps
+pub record Placed {A : Type 0} (f : Reader A) (ws : List ℕ) (n p : ℕ) (xs : List A) (q : ℕ) : Type 0 where
+  pub positions : List ℕ
+  pub reads : many n (posOf f) ws p ≡ got positions q
+  pub count : length positions ≡ n
+  pub ends : ℕ → ℕ
+  pub member : (i : ℕ) (d : A) → i < n → f ws (getD positions i 0) ≡ got (getD xs i d) (ends i)
+
+module _ {A : Type 0} (f : Reader A) (ws : List ℕ) where
+  pub placed : (n p : ℕ) (xs : List A) (q : ℕ) → many n f ws p ≡ got xs q → Placed f ws n p xs q
+  unfolding many
+  placed zero p xs q e = let z : p ≡ q = cc in record {
+    positions = [];
+    reads = ap (got []) z;
+    count = refl;
+    ends = λ i. 0;
+    member = λ i d h. absurd (omega arith);
+  }
+  placed (suc n) p xs q e =
+      then-inv (f ws p) _ e λ a p₁ e₁ e₂. then-inv (many n f ws p₁) _ e₂ λ ys p₂ e₃ e₄.
+      let h : a ∷ ys ≡ xs = cc in
+      let z : p₂ ≡ q = cc in
+      subst (λ x. Placed f ws (suc n) p x q) h (subst (Placed f ws (suc n) p (a ∷ ys)) z (more a ys p₁ p₂ e₁ (placed n p₁ ys p₂ e₃)))
+    where
+      more : (a : A) (ys : List A) (p₁ p₂ : ℕ) → f ws p ≡ got a p₁ → Placed f ws n p₁ ys p₂ → Placed f ws (suc n) p (a ∷ ys) p₂
+      more a ys p₁ p₂ e x = record {
+        positions = p ∷ x .positions;
+        reads = first e (x .reads);
+        count = ap suc (x .count);
+        ends = ends p₁ (x .ends);
+        member = member (x .ends) (x .member);
+      }
+        where
+          first : f ws p ≡ got a p₁ → many n (posOf f) ws p₁ ≡ got (x .positions) p₂ → many (suc n) (posOf f) ws p ≡ got (p ∷ x .positions) p₂
+          first e k = unfold many posOf in rw (e, k)
+
+          ends : ℕ → (ℕ → ℕ) → ℕ → ℕ
+          ends q g zero = q
+          ends q g (suc i) = g i
+
+          member : (g : ℕ → ℕ) → ((i : ℕ) (d : A) → i < n → f ws (getD (x .positions) i 0) ≡ got (getD ys i d) (g i)) →
+              (i : ℕ) (d : A) → i < suc n → f ws (getD (p ∷ x .positions) i 0) ≡ got (getD (a ∷ ys) i d) (ends p₁ g i)
+          member g k zero d h = e
+          member g k (suc i) d h = k i d (omega arith)
+
+-- the list at a position, and the words that are its members' positions
+pub record Indexed {A : Type 0} (f : Reader A) (ws : List ℕ) (at : ℕ) (xs : List A) (starts : List ℕ) : Type 0 where
+  pub whole : Whole (listOf (posOf f) ws at)
+  pub count : length starts ≡ length xs
+  pub ends : ℕ → ℕ
+  pub member : (i : ℕ) (d : A) → i < length xs → f ws (getD starts i 0) ≡ got (getD xs i d) (ends i)
+
+pub got-whole : {A : Type 0} {g : Got A} {a : A} {q : ℕ} → g ≡ got a q → Whole g
+unfolding Whole
+got-whole e = subst Whole (sym e) tt
+
+pub values-is : {A : Type 0} (g : Got (List A)) {xs : List A} {q : ℕ} → g ≡ got xs q → valuesOf g ≡ xs
+unfolding valuesOf
+values-is g e = ap valuesOf e
+
+module _ {A : Type 0} (f : Reader A) (ws : List ℕ) (at : ℕ) (xs : List A) (q : ℕ) where
+  pub indexed : listOf f ws at ≡ got xs q → Indexed f ws at xs (valuesOf (listOf (posOf f) ws at))
+  unfolding listOf
+  indexed e =
+      then-inv (word ws at) _ e λ n p₁ e₁ e₂.
+      let x = placed f ws n p₁ xs q e₂ in
+      let c = many-length n f ws p₁ xs q e₂ in
+      let g : listOf (posOf f) ws at ≡ got (x .positions) q = ap (λ (y : Got ℕ). andThen y (λ k p. many k (posOf f) ws p)) e₁ ∙ x .reads in
+      subst (Indexed f ws at xs) (sym (values-is (listOf (posOf f) ws at) g))
+      (record { whole = got-whole g; count = x .count ∙ sym c; ends = x .ends; member = λ i d h. x .member i d (omega (arith, c)) })
+
+  -- a word for the count, and one or more for each member
+  pub list-fit : (enc : A → List ℕ) (ok : A → Bool) → Codes ws f enc ok → ((a : A) → 1 ≤ length (enc a)) → listOf f ws at ≡ got xs q → at + 1 + length xs ≤ q
+  unfolding listOf
+  list-fit enc ok l h e =
+      seq ws (word-codes ws) at _ e λ n p₁ s o e.
+      omega (arith, s .end, many-fit ws f enc ok l 1 h n p₁ xs q e, many-length n f ws p₁ xs q e)

@@ -1,0 +1,149 @@
+-- The index of an intact sheet: its lists are whole, there is room for it, and its words are where the members stand.
+use Prim.Native.Nat.{ℕ, _+_, _≤_, _<_}
+use mathlib.Core.Path.{_≡_, refl, sym, ap, subst, _∙_}
+use mathlib.Core.List.{List, _∷_, _++_}
+use mathlib.Core.Bool.{true}
+use mathlib.Core.Option.{some}
+use native.Mathlib.Omega.{arith}
+use lib.ListN.{length, length-append}
+use Rattle.lists.specs.Lists.{all}
+use Rattle.blocks.specs.Blocks.{framed}
+use Rattle.blocks.specs.ByteLaws.{isWord}
+use Rattle.blocks.specs.Frame.{firstWords}
+use Rattle.blocks.specs.FirstWords.{firstWords-framed}
+use Rattle.utf8.specs.Utf8.{wellFormed}
+use Rattle.reader.specs.declared.Step.the-variants.{Next}
+use Rattle.reader.specs.Reader.{got, listOf}
+use Rattle.reader.specs.Text.{string, encodeString}
+use Rattle.reader.specs.TextLaws.{string-codes}
+use Rattle.reader.specs.ReaderLaws.{free, word-codes}
+use Rattle.reader.specs.ReadLaws.{content-inv, content-is}
+use Rattle.reader.specs.Step.{stepOf}
+use Rattle.reader.specs.StepLaws.{arrived}
+use Rattle.sheet.specs.Module.{TypeDef, Const, plain, Import, Func, Module}
+use Rattle.sheet.specs.Decode.{typeDef, constOf, importOf, globalOf, functionOf, hookOf, exportOf, moduleOf, decode}
+use Rattle.sheet.specs.Encode.{encodeType, encodeConst, encodeImport, encodeGlobal, encodeFunc, encodeHook, encodeExport}
+use Rattle.sheet.specs.Coded.{codedType, codedGlobal, codedFunc, codedHook, codedExport}
+use Rattle.sheet.specs.TypeCodes.{type-codes, const-codes}
+use Rattle.sheet.specs.FuncCodes.{import-codes, global-codes, function-codes}
+use Rattle.sheet.specs.ModuleCodes.{hook-codes, export-codes}
+use Rattle.layout.specs.Layout.{posOf, layoutOf, layout}
+use Rattle.layout.specs.LayoutLaws.{layout-module, Located, located}
+use Rattle.layout.specs.declared.Layout.{Layout}
+use Rattle.index.specs.declared.Part.the-variants.{Strings, Types, Consts, Imports, Funcs}
+use Rattle.index.specs.Index.{memberOf, startsOf, Whole, Indexable, starts}
+use Rattle.index.specs.IndexLaws.{Indexed, indexed, list-fit}
+
+-- a sheet with a layout holds a module, and each list stands where the layout says
+pub intact : (bytes : List ℕ) (l : Layout) {C : Type 0} → layout bytes ≡ some l →
+    ((m : Module) → decode bytes ≡ some m → Located (firstWords bytes (l .words)) m l → C) → C
+unfolding layout decode
+intact bytes l e f =
+    content-inv layoutOf (framed bytes) l e λ ws e₁ e₂.
+    arrived (moduleOf ws 2) {r = Next (length ws)} refl (sym (ended ws e₂) ∙ layout-module ws 2) λ m g.
+    let x = located ws m l g e₂ in
+    let w : ws ≡ firstWords bytes (l .words) = sym (firstWords-framed bytes ws e₁) ∙ ap (firstWords bytes) (x .words) in
+    f m (rw e₁ (content-is moduleOf ws m g)) (subst (λ (v : List ℕ). Located v m l) w x)
+  where
+    ended : (ws : List ℕ) → layoutOf ws 2 ≡ got l (length ws) → stepOf (layoutOf ws 2) ≡ Next (length ws)
+    ended ws e = unfold stepOf in ap stepOf e
+
+module _ (ws : List ℕ) (m : Module) (l : Layout) (x : Located ws m l) where
+  -- ── where the members stand ──
+
+  pub strings-indexed : Indexed string ws (l .strings) (m .strings) (startsOf Strings ws (l .strings))
+  unfolding startsOf memberOf
+  strings-indexed = indexed string ws (l .strings) (m .strings) (l .types) (x .strings)
+
+  pub types-indexed : Indexed typeDef ws (l .types) (m .types) (startsOf Types ws (l .types))
+  unfolding startsOf memberOf
+  types-indexed = indexed typeDef ws (l .types) (m .types) (l .consts) (x .types)
+
+  pub consts-indexed : Indexed constOf ws (l .consts) (m .consts) (startsOf Consts ws (l .consts))
+  unfolding startsOf memberOf
+  consts-indexed = indexed constOf ws (l .consts) (m .consts) (l .imports) (x .consts)
+
+  pub imports-indexed : Indexed importOf ws (l .imports) (m .imports) (startsOf Imports ws (l .imports))
+  unfolding startsOf memberOf
+  imports-indexed = indexed importOf ws (l .imports) (m .imports) (l .globals) (x .imports)
+
+  pub funcs-indexed : Indexed functionOf ws (l .funcs) (m .funcs) (startsOf Funcs ws (l .funcs))
+  unfolding startsOf memberOf
+  funcs-indexed = indexed functionOf ws (l .funcs) (m .funcs) (l .hooks) (x .funcs)
+
+  pub indexable : Indexable ws l
+  unfolding memberOf
+  indexable = record {
+    strings = strings-indexed .whole;
+    types = types-indexed .whole;
+    consts = consts-indexed .whole;
+    imports = imports-indexed .whole;
+    funcs = funcs-indexed .whole;
+  }
+
+  -- ── room ──
+
+  const-some : (k : Const) → 1 ≤ length (encodeConst k)
+  unfolding encodeConst
+  const-some (plain a b) = omega arith
+  const-some (Const.string s) = omega arith
+  const-some (Const.array items) = omega arith
+  const-some (Const.map entries) = omega arith
+
+  strings-fit : all isWord ws ≡ true → l .strings + 1 + length (m .strings) ≤ l .types
+  strings-fit w =
+      list-fit string ws (l .strings) (m .strings) (l .types) encodeString wellFormed (string-codes ws w) (λ b. unfold encodeString in omega arith) (x .strings)
+
+  types-fit : l .types + 1 + length (m .types) ≤ l .consts
+  types-fit = list-fit typeDef ws (l .types) (m .types) (l .consts) encodeType codedType (type-codes ws) (λ d. unfold encodeType in omega arith) (x .types)
+
+  consts-fit : l .consts + 1 + length (m .consts) ≤ l .imports
+  consts-fit = list-fit constOf ws (l .consts) (m .consts) (l .imports) encodeConst free (const-codes ws) const-some (x .consts)
+
+  imports-fit : l .imports + 1 + length (m .imports) ≤ l .globals
+  imports-fit = list-fit importOf ws (l .imports) (m .imports) (l .globals) encodeImport free (import-codes ws) (λ i. unfold encodeImport in omega arith) (x .imports)
+
+  funcs-fit : l .funcs + 1 + length (m .funcs) ≤ l .hooks
+  funcs-fit = list-fit functionOf ws (l .funcs) (m .funcs) (l .hooks) encodeFunc codedFunc (function-codes ws) (λ f. unfold encodeFunc in omega arith) (x .funcs)
+
+  globals-fit : l .globals + 1 + length (m .globals) ≤ l .funcs
+  globals-fit = list-fit globalOf ws (l .globals) (m .globals) (l .funcs) encodeGlobal codedGlobal (global-codes ws) (λ g. unfold encodeGlobal in omega arith) (x .globals)
+
+  hooks-fit : l .hooks + 1 + length (m .hooks) ≤ l .start
+  hooks-fit = list-fit hookOf ws (l .hooks) (m .hooks) (l .start) encodeHook codedHook (hook-codes ws) (λ h. unfold encodeHook in omega arith) (x .hooks)
+
+  start-fit : l .exports ≡ l .start + 1
+  start-fit = word-codes ws .found (l .start) (m .start+) (l .exports) (x .start) .stands .end
+
+  exports-fit : l .exports + 1 + length (m .exports) ≤ l .words
+  exports-fit = list-fit exportOf ws (l .exports) (m .exports) (l .words) encodeExport codedExport (export-codes ws) (λ e. unfold encodeExport in omega arith) (x .exports)
+
+  -- a word of work for each word of the sheet is room enough
+  pub starts-few : all isWord ws ≡ true → length (starts ws l) ≤ l .words
+  unfolding starts
+  starts-few w =
+      let s₁ = startsOf Strings ws (l .strings) in
+      let s₂ = startsOf Types ws (l .types) in
+      let s₃ = startsOf Consts ws (l .consts) in
+      let s₄ = startsOf Imports ws (l .imports) in
+      let s₅ = startsOf Funcs ws (l .funcs) in
+      let n : length (s₁ ++ s₂ ++ s₃ ++ s₄ ++ s₅) ≡ length s₁ + length s₂ + length s₃ + length s₄ + length s₅ =
+      omega (arith, length-append s₁ s₂, length-append (s₁ ++ s₂) s₃, length-append (s₁ ++ s₂ ++ s₃) s₄, length-append (s₁ ++ s₂ ++ s₃ ++ s₄) s₅) in
+      omega (
+        arith,
+        n,
+        strings-indexed .count,
+        types-indexed .count,
+        consts-indexed .count,
+        imports-indexed .count,
+        funcs-indexed .count,
+        strings-fit w,
+        types-fit,
+        consts-fit,
+        imports-fit,
+        globals-fit,
+        funcs-fit,
+        hooks-fit,
+        start-fit,
+        exports-fit,
+      )
