@@ -1,0 +1,89 @@
+//! How many cases hit each kind and each word.
+
+use std::fmt;
+
+use sheets::decode_sheet;
+
+use crate::Answer;
+
+/// Kinds that a sheet, a host list or lengths can meet: 0 to 24 (25 is the query's, 26 cannot occur).
+const KINDS: usize = 25;
+
+/// Hits by kind, by word of kinds 3 and 11, and by operation code in accepted sheets.
+#[derive(Clone, Debug)]
+pub struct Coverage {
+    kinds: [u64; KINDS],
+    out_of_range: [u64; 14],
+    wrong_type_kind: [u64; 4],
+    codes: [u64; 35],
+}
+
+impl Default for Coverage {
+    fn default() -> Coverage {
+        Coverage {
+            kinds: [0; KINDS],
+            out_of_range: [0; 14],
+            wrong_type_kind: [0; 4],
+            codes: [0; 35],
+        }
+    }
+}
+
+impl Coverage {
+    /// Counts an answer to a sheet.
+    pub fn add(&mut self, sheet: &[u8], answer: &Answer) {
+        let [kind, word, ..] = answer.numbers;
+        self.kinds[kind as usize] += 1;
+        match kind {
+            0 => self.add_codes(sheet),
+            3 => self.out_of_range[word as usize - 1] += 1,
+            11 => self.wrong_type_kind[word as usize - 1] += 1,
+            _ => {}
+        }
+    }
+
+    fn add_codes(&mut self, sheet: &[u8]) {
+        let Some((sheet, _)) = decode_sheet(sheet) else {
+            return;
+        };
+        let mut seen = [false; 35];
+        for inst in sheet.functions.iter().flat_map(|f| &f.code) {
+            seen[usize::from(*inst as u8)] = true;
+        }
+        for (hits, seen) in self.codes.iter_mut().zip(seen) {
+            *hits += u64::from(seen);
+        }
+    }
+
+    /// What no case has hit, in words.
+    pub fn missed(&self) -> Vec<String> {
+        let mut missed = Vec::new();
+        let mut look = |name: &str, first: usize, hits: &[u64]| {
+            for (i, _) in hits.iter().enumerate().filter(|(_, &h)| h == 0) {
+                missed.push(format!("{name} {}", first + i));
+            }
+        };
+        look("kind", 0, &self.kinds);
+        look("kind 3 word", 1, &self.out_of_range);
+        look("kind 11 word", 1, &self.wrong_type_kind);
+        look("accepted code", 0, &self.codes);
+        missed
+    }
+}
+
+impl fmt::Display for Coverage {
+    fn fmt(&self, f: &mut fmt::Formatter<'_>) -> fmt::Result {
+        let mut row = |name: &str, first: usize, hits: &[u64]| {
+            let cells: Vec<_> = hits
+                .iter()
+                .enumerate()
+                .map(|(i, h)| format!("{}:{h}", first + i))
+                .collect();
+            writeln!(f, "{name} {}", cells.join(" "))
+        };
+        row("kind", 0, &self.kinds)?;
+        row("kind 3 word", 1, &self.out_of_range)?;
+        row("kind 11 word", 1, &self.wrong_type_kind)?;
+        row("accepted sheets with code", 0, &self.codes)
+    }
+}

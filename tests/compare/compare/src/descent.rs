@@ -1,0 +1,31 @@
+//! Descent by declared parents, by brute force, and images under a renumbering.
+
+use sheets::{Sheet, TypeEntry};
+
+/// Whether both numbers are struct types and `a` is `t` or is reached from it by declared parents.
+pub fn descends_by_parents(sheet: &Sheet, t: u32, a: u32) -> bool {
+    let parent = |n: u32| match sheet.types.get(n as usize) {
+        Some(TypeEntry::Struct { parent, .. }) => Some(*parent),
+        _ => None,
+    };
+    if parent(t).is_none() || parent(a).is_none() {
+        return false;
+    }
+    // A walk longer than the number of types goes in a circle.
+    let mut at = t;
+    for _ in 0..=sheet.types.len() {
+        if at == a {
+            return true;
+        }
+        match parent(at) {
+            Some(Some(next)) => at = next,
+            _ => return false,
+        }
+    }
+    false
+}
+
+/// The image of a number; numbers without a type are their own.
+pub fn image(images: &[u32], t: u32) -> u32 {
+    images.get(t as usize).copied().unwrap_or(t)
+}

@@ -1,0 +1,192 @@
+//! Commands over the reference loader; see README.md.
+
+use std::collections::HashMap;
+use std::io::Write;
+use std::process::ExitCode;
+
+use compare::{answer, describe_case, line_of, read_cases, write_cases, Coverage, StoredCase};
+use generator::case;
+use sheets::BLOCK;
+
+const USAGE: &str = "usage:
+  compare coverage [--seed S] [--cases N]
+  compare cases [--seed S] [--count N] [--max-blocks B] --out FILE
+  compare check FILE
+  compare show FILE K
+  compare antt [--seed S] [--count N] [--max-words W]
+numbers are decimal; seed 1 by default";
+
+/// A run of at least so many cases fails if it misses a kind or a word.
+const FULL_RUN: u64 = 5000;
+
+fn main() -> ExitCode {
+    let args: Vec<String> = std::env::args().skip(1).collect();
+    match run(&args) {
+        Some(Ok(())) => ExitCode::SUCCESS,
+        Some(Err(message)) => {
+            eprintln!("{message}");
+            ExitCode::from(1)
+        }
+        None => {
+            eprintln!("{USAGE}");
+            ExitCode::from(2)
+        }
+    }
+}
+
+/// None when the arguments are wrong.
+fn run(args: &[String]) -> Option<Result<(), String>> {
+    let (command, rest) = args.split_first()?;
+    match command.as_str() {
+        "coverage" => {
+            let options = Options::read(rest, &["--seed", "--cases"])?;
+            let cases = options.number("--cases", FULL_RUN)?;
+            Some(coverage(options.number("--seed", 1)?, cases))
+        }
+        "cases" => {
+            let names = ["--seed", "--count", "--max-blocks", "--out"];
+            let options = Options::read(rest, &names)?;
+            let blocks = options.number("--max-blocks", 2)? as usize;
+            let (seed, count) = (
+                options.number("--seed", 1)?,
+                options.number("--count", 100)?,
+            );
+            let bytes = blocks.checked_mul(BLOCK).filter(|&b| b >= BLOCK)?;
+            let stored = small_cases(seed, count, bytes);
+            let out = options.text("--out")?;
+            Some(write_file(out, &write_cases(&stored)))
+        }
+        "antt" => {
+            let options = Options::read(rest, &["--seed", "--count", "--max-words"])?;
+            let words = options.number("--max-words", 256)? as usize;
+            // Less than one block of 128 words would leave broken sheets only.
+            let bytes = words.checked_mul(4).filter(|&b| b >= BLOCK)?;
+            let (seed, count) = (
+                options.number("--seed", 1)?,
+                options.number("--count", 100)?,
+            );
+            let lines = small_cases(seed, count, bytes);
+            let lines: Vec<_> = lines.iter().map(|c| line_of(c) + "\n").collect();
+            Some(print(&lines.concat()))
+        }
+        "check" => match rest {
+            [file] => Some(check(file)),
+            _ => None,
+        },
+        "show" => match rest {
+            [file, k] => Some(show(file, k.parse().ok()?)),
+            _ => None,
+        },
+        _ => None,
+    }
+}
+
+/// Options, each with a value, each at most once.
+struct Options(HashMap<String, String>);
+
+impl Options {
+    fn read(args: &[String], names: &[&str]) -> Option<Options> {
+        let mut found = HashMap::new();
+        for pair in args.chunks(2) {
+            let [name, value] = pair else { return None };
+            let known = names.contains(&name.as_str());
+            if !known || found.insert(name.clone(), value.clone()).is_some() {
+                return None;
+            }
+        }
+        Some(Options(found))
+    }
+
+    fn number(&self, name: &str, default: u64) -> Option<u64> {
+        self.0.get(name).map_or(Some(default), |v| v.parse().ok())
+    }
+
+    fn text(&self, name: &str) -> Option<&str> {
+        self.0.get(name).map(String::as_str)
+    }
+}
+
+fn coverage(seed: u64, cases: u64) -> Result<(), String> {
+    let mut coverage = Coverage::default();
+    for index in 0..cases {
+        let case = case(seed, index);
+        let answer = answer(&case.sheet, &case.hosts, case.table_len, case.work_len);
+        coverage.add(&case.sheet, &answer);
+    }
+    print(&coverage.to_string())?;
+    let missed = coverage.missed();
+    if cases >= FULL_RUN && !missed.is_empty() {
+        return Err(format!("missed: {}", missed.join(", ")));
+    }
+    Ok(())
+}
+
+/// Cases of a seed whose sheet and host list have at most so many bytes, spread over kinds and words.
+fn small_cases(seed: u64, count: u64, most_bytes: usize) -> Vec<StoredCase> {
+    let mut taken: HashMap<(u32, u32), u64> = HashMap::new();
+    let mut cases = Vec::new();
+    for index in 0.. {
+        if cases.len() as u64 == count {
+            break;
+        }
+        let c = case(seed, index);
+        if c.sheet.len() > most_bytes || c.hosts.len() > most_bytes {
+            continue;
+        }
+        let answer = answer(&c.sheet, &c.hosts, c.table_len, c.work_len);
+        let [kind, word, ..] = answer.numbers;
+        // A third may be accepted; another kind or word gets one in 60, and more once all were met.
+        let share = if kind == 0 { count / 3 } else { count / 60 };
+        let most = share.max(1) + index / 5_000;
+        let taken = taken.entry((kind, word)).or_default();
+        if *taken < most {
+            *taken += 1;
+            cases.push(StoredCase {
+                sheet: c.sheet,
+                hosts: c.hosts,
+                table_len: c.table_len,
+                work_len: c.work_len,
+                answer,
+            });
+        }
+    }
+    cases
+}
+
+/// Prints, without a panic when the reader has gone.
+fn print(text: &str) -> Result<(), String> {
+    let written = std::io::stdout().write_all(text.as_bytes());
+    written.map_err(|e| format!("output: {e}"))
+}
+
+fn write_file(path: &str, bytes: &[u8]) -> Result<(), String> {
+    std::fs::write(path, bytes).map_err(|e| format!("{path}: {e}"))
+}
+
+fn read_file(path: &str) -> Result<Vec<StoredCase>, String> {
+    let bytes = std::fs::read(path).map_err(|e| format!("{path}: {e}"))?;
+    read_cases(&bytes).ok_or_else(|| format!("{path}: no file of stored cases"))
+}
+
+fn check(path: &str) -> Result<(), String> {
+    let cases = read_file(path)?;
+    let mut coverage = Coverage::default();
+    for (k, c) in cases.iter().enumerate() {
+        let found = answer(&c.sheet, &c.hosts, c.table_len, c.work_len);
+        if found.numbers != c.answer.numbers {
+            let (stored, found) = (c.answer.numbers, found.numbers);
+            return Err(format!("case {k}: stored {stored:?}, answered {found:?}"));
+        }
+        if found.table != c.answer.table {
+            return Err(format!("case {k}: the tables differ"));
+        }
+        coverage.add(&c.sheet, &found);
+    }
+    print(&format!("{} cases agree\n{coverage}", cases.len()))
+}
+
+fn show(path: &str, k: usize) -> Result<(), String> {
+    let cases = read_file(path)?;
+    let case = cases.get(k).ok_or_else(|| format!("{path}: no case {k}"))?;
+    print(&describe_case(case))
+}

@@ -1,0 +1,79 @@
+//! Paper 01 written out once more, over plain data and without program.rs or its stand-ins:
+//! the reference must answer as the paper says, word for word.
+
+mod code;
+mod records;
+mod rules;
+mod table;
+mod types;
+
+use compare::{answer, Answer};
+use generator::case;
+use sheets::{decode_hosts, decode_sheet, needed, HostEntry, Sheet, BLOCK};
+
+/// The answer to bytes, by the paper.
+fn by_paper(sheet: &[u8], hosts: &[u8], table_len: u32, work_len: u32) -> Answer {
+    let refused = |numbers| Answer {
+        numbers,
+        table: None,
+    };
+    let Some((sheet, n)) = decode_sheet(sheet) else {
+        return refused(rules::kind(1));
+    };
+    let Some(hosts) = decode_hosts(hosts).filter(|hosts| no_pair_twice(hosts)) else {
+        return refused(rules::kind(23));
+    };
+    if u64::from(table_len) < needed(n) || u64::from(work_len) < needed(n) {
+        return refused(rules::kind(24));
+    }
+    match first_fault(&sheet, &hosts) {
+        Err(numbers) => refused(numbers),
+        Ok(()) => {
+            let table = table::words(&sheet, &hosts);
+            Answer {
+                numbers: [0, 0, table.len() as u32, 0, 0, 0],
+                table: Some(table),
+            }
+        }
+    }
+}
+
+fn no_pair_twice(hosts: &[HostEntry]) -> bool {
+    let pair = |h: &HostEntry| (h.module.clone(), h.name.clone());
+    (0..hosts.len()).all(|i| (0..i).all(|j| pair(&hosts[i]) != pair(&hosts[j])))
+}
+
+/// Rules 2 to 8, in this order.
+fn first_fault(sheet: &Sheet, hosts: &[HostEntry]) -> Result<(), rules::Fault> {
+    types::types(sheet)?;
+    types::parents(sheet)?;
+    types::constants(sheet)?;
+    rules::imports(sheet, hosts)?;
+    rules::globals(sheet)?;
+    for (f, function) in (0..).zip(&sheet.functions) {
+        records::record(sheet, function).map_err(|e| rules::in_function(e, f))?;
+    }
+    for (f, function) in (0..).zip(&sheet.functions) {
+        code::code(sheet, function).map_err(|e| rules::in_function(e, f))?;
+    }
+    rules::hooks(sheet)?;
+    rules::start(sheet)?;
+    rules::exports(sheet)
+}
+
+#[test]
+fn the_reference_answers_as_the_paper_says() {
+    let mut compared = 0;
+    for index in 0..12_000 {
+        let c = case(14, index);
+        // The paper's definitions are computed plainly, so sheets of more blocks would take long.
+        if c.sheet.len() > 24 * BLOCK || c.hosts.len() > 24 * BLOCK {
+            continue;
+        }
+        let rust = answer(&c.sheet, &c.hosts, c.table_len, c.work_len);
+        let paper = by_paper(&c.sheet, &c.hosts, c.table_len, c.work_len);
+        assert_eq!(rust, paper, "case {index}, {}", c.label);
+        compared += 1;
+    }
+    assert!(compared >= 10_000, "{compared} compared");
+}

@@ -1,0 +1,88 @@
+//! The commands: what they print and how they end.
+
+use std::path::PathBuf;
+use std::process::{Command, Output};
+
+fn compare(args: &[&str]) -> Output {
+    let program = env!("CARGO_BIN_EXE_compare");
+    Command::new(program).args(args).output().expect("it runs")
+}
+
+fn code(args: &[&str]) -> Option<i32> {
+    compare(args).status.code()
+}
+
+fn stdout(args: &[&str]) -> String {
+    String::from_utf8(compare(args).stdout).expect("text")
+}
+
+fn file(name: &str) -> PathBuf {
+    PathBuf::from(env!("CARGO_TARGET_TMPDIR")).join(name)
+}
+
+#[test]
+fn wrong_arguments_end_with_2() {
+    let wrong: [&[&str]; 10] = [
+        &[],
+        &["what"],
+        &["coverage", "--seed"],
+        &["coverage", "--seed", "x"],
+        &["coverage", "--seed", "1", "--seed", "2"],
+        &["cases", "--count", "1"],
+        &["cases", "--max-blocks", "0", "--out", "file"],
+        &["check"],
+        &["show", "file"],
+        &["antt", "--max-words", "127"],
+    ];
+    for args in wrong {
+        assert_eq!(code(args), Some(2), "{args:?}");
+    }
+    assert_eq!(code(&["check", "/nowhere/at/all"]), Some(1));
+}
+
+#[test]
+fn coverage_prints_every_kind() {
+    let text = stdout(&["coverage", "--seed", "1", "--cases", "50"]);
+    let lines: Vec<_> = text.lines().collect();
+    assert_eq!(lines.len(), 4);
+    assert!(lines[0].starts_with("kind 0:") && lines[0].contains(" 24:"));
+    assert!(lines[1].contains(" 14:"));
+}
+
+#[test]
+fn stored_cases_are_checked_and_shown() {
+    let path = file("stored.cases");
+    let path = path.to_str().expect("text");
+    assert_eq!(
+        code(&["cases", "--seed", "5", "--count", "40", "--out", path]),
+        Some(0)
+    );
+    assert!(stdout(&["check", path]).starts_with("40 cases agree\n"));
+    assert!(stdout(&["show", path, "3"]).contains("answer: "));
+    assert_eq!(code(&["show", path, "40"]), Some(1));
+    // A stored answer that is not the reference's is found: the first case's kind.
+    let mut bytes = std::fs::read(path).expect("it was written");
+    bytes[8 + 16] ^= 1;
+    std::fs::write(path, bytes).expect("it is written");
+    assert_eq!(code(&["check", path]), Some(1));
+}
+
+#[test]
+fn lines_for_other_tools() {
+    let text = stdout(&["antt", "--seed", "1", "--count", "30", "--max-words", "256"]);
+    assert_eq!(text.lines().count(), 30);
+    for line in text.lines() {
+        let parts: Vec<_> = line.split(" | ").collect();
+        assert_eq!(parts.len(), 6);
+        assert!(parts[0].split_whitespace().count() <= 1024);
+        let numbers: Vec<u32> = parts[4]
+            .split(' ')
+            .map(|n| n.parse().expect("a number"))
+            .collect();
+        assert_eq!(numbers.len(), 6);
+        match numbers[0] {
+            0 => assert_eq!(parts[5].split(' ').count(), numbers[2] as usize),
+            _ => assert_eq!(parts[5], "-"),
+        }
+    }
+}

@@ -1,0 +1,78 @@
+//! Descent by spans, by the Rust's own test and by declared parents, on generated sheets.
+
+use bvm_lang::{descends, table_words};
+use compare::{descends_by_parents, load, query};
+use generator::{case, valid, Draft, Rng, Scale};
+use sheets::{decode_sheet, encode_hosts, encode_sheet, Sheet};
+
+/// Every number of a type, some that are none, and far ones; a sample of them in large sheets.
+fn numbers(rng: &mut Rng, types: usize) -> Vec<u32> {
+    let mut numbers: Vec<u32> = if types <= 24 {
+        (0..types as u32).collect()
+    } else {
+        (0..24).map(|_| rng.index(types)).collect()
+    };
+    let n = types as u32;
+    numbers.extend([n, n + 1, 1 << 31, u32::MAX - 1, u32::MAX]);
+    numbers
+}
+
+/// Compares the three tests for all pairs of numbers; false when the sheet is refused.
+fn agree(rng: &mut Rng, sheet: &Sheet, bytes: &[u8], hosts: &[u8]) -> bool {
+    let Ok((program, host)) = load(bytes, hosts, u32::MAX, u32::MAX) else {
+        return false;
+    };
+    let table = table_words(&program, &host);
+    let numbers = numbers(rng, sheet.types.len());
+    for &t in &numbers {
+        for &a in &numbers {
+            let declared = descends_by_parents(sheet, t, a);
+            assert_eq!(
+                query(&table, t, a),
+                u32::from(declared),
+                "{t} from {a}: {sheet:?}"
+            );
+            assert_eq!(
+                descends(&program, t, a),
+                declared,
+                "{t} from {a}: {sheet:?}"
+            );
+        }
+    }
+    true
+}
+
+#[test]
+fn spans_equal_brute_force_on_100_000_sheets() {
+    let hosts = encode_hosts(&[]).to_bytes();
+    let mut accepted = 0;
+    for index in 0..100_000 {
+        let mut rng = Rng::new(3, index);
+        let rng = &mut rng;
+        let Draft { mut sheet, .. } = valid(rng, &Scale::families());
+        // One in ten loses or changes a parent, so that refused sheets are among them.
+        if rng.one_in(10) {
+            let parent = rng.choose(&[0, 1, 2, 3, 99]);
+            let t = rng.below(sheet.types.len().max(1));
+            if let Some(sheets::TypeEntry::Struct { parent: p, .. }) = sheet.types.get_mut(t) {
+                *p = parent;
+            }
+        }
+        let bytes = encode_sheet(&sheet).to_bytes();
+        accepted += u32::from(agree(rng, &sheet, &bytes, &hosts));
+    }
+    assert!((90_000..99_990).contains(&accepted), "{accepted} accepted");
+}
+
+#[test]
+fn spans_equal_brute_force_on_cases() {
+    let mut accepted = 0;
+    for index in 0..5_000 {
+        let case = case(4, index);
+        let mut rng = Rng::new(5, index);
+        if let Some((sheet, _)) = decode_sheet(&case.sheet) {
+            accepted += u32::from(agree(&mut rng, &sheet, &case.sheet, &case.hosts));
+        }
+    }
+    assert!(accepted >= 1_500, "{accepted} accepted");
+}

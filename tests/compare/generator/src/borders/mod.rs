@@ -1,0 +1,33 @@
+//! Modules at the borders of the rules: on the last number that holds, or one past it.
+
+mod calls;
+mod families;
+mod layout;
+mod several;
+mod shapes;
+
+use crate::{Draft, Rng};
+
+/// A border and how to make a module there.
+pub type Border = (&'static str, fn(&mut Rng) -> Draft);
+
+/// Borders that fit a few blocks.
+pub fn borders() -> Vec<Border> {
+    [
+        families::BORDERS,
+        calls::BORDERS,
+        shapes::BORDERS,
+        layout::BORDERS,
+    ]
+    .concat()
+}
+
+/// One place with several faults.
+pub fn several_faults() -> Vec<Border> {
+    several::BORDERS.to_vec()
+}
+
+/// Borders at 65,536, which take hundreds of blocks.
+pub fn wide_borders() -> Vec<Border> {
+    [families::WIDE, calls::WIDE].concat()
+}

@@ -1,0 +1,94 @@
+//! Large sheets: a module with one list filled up to a wanted number of words.
+
+use sheets::build::{function, hook_function, ret_void, structure};
+use sheets::{
+    encode_hosts, encode_sheet, Constant, Export, ExportKind, Function, Global, HostEntry,
+    TypeEntry, ValueType, DYN,
+};
+
+use crate::texts::long;
+use crate::{Draft, Rng};
+
+/// Adds members of one list until the sheet has about so many words, never more.
+pub fn fill(rng: &mut Rng, draft: &mut Draft, words: usize) {
+    let none = draft.sig(&[], &[]);
+    let one = draft.sig(&[DYN], &[DYN]);
+    let hooked = draft.sheet.functions.len() as u32;
+    for (sig, regs) in [(one, &[DYN][..]), (none, &[])] {
+        draft.sheet.functions.push(Function {
+            sig,
+            ..function(regs, &[ret_void()])
+        });
+    }
+    let have = encode_sheet(&draft.sheet).words.len();
+    let Some(room) = words.checked_sub(have) else {
+        return;
+    };
+    let types = draft.sheet.types.len();
+    let sheet = &mut draft.sheet;
+    match rng.below(11) {
+        0 => sheet.types.extend((0..room).map(|_| TypeEntry::Coroutine)),
+        1 => sheet.types.extend((0..room / 2).map(|_| array(rng, types))),
+        2 => add_structs(rng, &mut sheet.types, room / 5),
+        3 => sheet.strings.extend((0..room).map(|_| Vec::new())),
+        4 if room > 8 => sheet.strings.push(long(rng, 4 * (room - 8))),
+        5 => sheet
+            .constants
+            .extend((0..room / 3).map(|_| Constant::Plain(1, 2))),
+        6 => sheet.globals.extend((0..room / 2).map(|_| Global {
+            ty: DYN,
+            init: None,
+        })),
+        7 => sheet.functions.extend((0..room / 12).map(|_| Function {
+            sig: none,
+            ..function(&[], &[ret_void()])
+        })),
+        8 => sheet
+            .hooks
+            .extend((0..room / 3).map(|k| hook_function(k as u32 % 7, hooked))),
+        9 => sheet.exports.extend((0..room / 3).map(|_| Export {
+            kind: ExportKind::Type,
+            name: rng.word(),
+            index: rng.index(types),
+        })),
+        _ => {
+            let code = &mut sheet.functions[hooked as usize].code;
+            code.extend((0..room / 2).map(|_| ret_void()));
+        }
+    }
+}
+
+/// An array of one of many types, so that some are equal.
+fn array(rng: &mut Rng, types: usize) -> TypeEntry {
+    TypeEntry::Array(ValueType::reference(rng.index(types)))
+}
+
+/// A large forest with chains below 256.
+fn add_structs(rng: &mut Rng, types: &mut Vec<TypeEntry>, count: usize) {
+    let first = types.len();
+    let mut depth: Vec<u32> = Vec::new();
+    for k in 0..count {
+        let near = k.saturating_sub(rng.within(1, 4));
+        let far = rng.below(k.max(1));
+        let parent = rng.pick(&[near, near, far]);
+        let root = k == 0 || depth[parent] >= 255 || rng.one_in(2000);
+        depth.push(if root { 1 } else { depth[parent] + 1 });
+        types.push(structure((!root).then_some((first + parent) as u32), &[]));
+    }
+}
+
+/// Adds host entries until the list has about so many words, never more.
+pub fn fill_hosts(rng: &mut Rng, draft: &mut Draft, words: usize) {
+    let have = encode_hosts(&draft.hosts).words.len();
+    let Some(room) = words.checked_sub(have) else {
+        return;
+    };
+    // An entry takes five words: no module text, a name of eight bytes, the kind.
+    for k in 0..room / 5 {
+        draft.hosts.push(HostEntry {
+            module: Vec::new(),
+            name: format!("{k:08}").into_bytes(),
+            scheduler: rng.coin(),
+        });
+    }
+}

@@ -1,0 +1,80 @@
+//! A sheet and its host list as plain data, before any byte of it is written.
+
+use sheets::build::func;
+use sheets::{HostEntry, Sheet, TypeEntry, ValueType, DYN};
+
+use crate::Rng;
+
+/// Plain data of a sheet and a host list.
+#[derive(Clone, Debug, Default)]
+pub struct Draft {
+    pub sheet: Sheet,
+    pub hosts: Vec<HostEntry>,
+}
+
+impl Draft {
+    /// A func type with these parameters and results, found or added.
+    pub fn sig(&mut self, params: &[ValueType], results: &[ValueType]) -> u32 {
+        let wanted = func(params, results);
+        self.entry(wanted)
+    }
+
+    /// A type entry, found or added.
+    pub fn entry(&mut self, wanted: TypeEntry) -> u32 {
+        let types = &mut self.sheet.types;
+        let place = types.iter().position(|t| *t == wanted);
+        place.unwrap_or_else(|| {
+            types.push(wanted);
+            types.len() - 1
+        }) as u32
+    }
+
+    /// The parameters and results of a func type.
+    pub fn signature(&self, t: u32) -> Option<(&[ValueType], &[ValueType])> {
+        match self.sheet.types.get(t as usize) {
+            Some(TypeEntry::Func { params, results }) => Some((params, results)),
+            _ => None,
+        }
+    }
+
+    /// A string, found or added.
+    pub fn string(&mut self, text: &[u8]) -> u32 {
+        let strings = &mut self.sheet.strings;
+        let place = strings.iter().position(|s| s == text);
+        place.unwrap_or_else(|| {
+            strings.push(text.to_vec());
+            strings.len() - 1
+        }) as u32
+    }
+
+    /// Numbers of the types for which the test holds.
+    pub fn types_with(&self, test: impl Fn(&TypeEntry) -> bool) -> Vec<u32> {
+        (0u32..)
+            .zip(&self.sheet.types)
+            .filter(|(_, t)| test(t))
+            .map(|(i, _)| i)
+            .collect()
+    }
+
+    pub fn func_types(&self) -> Vec<u32> {
+        self.types_with(|t| matches!(t, TypeEntry::Func { .. }))
+    }
+
+    pub fn structs(&self) -> Vec<u32> {
+        self.types_with(|t| matches!(t, TypeEntry::Struct { .. }))
+    }
+
+    /// A value type: dyn often, a reference to a type often, else any of the plain ones.
+    pub fn value_type(&self, rng: &mut Rng) -> ValueType {
+        value_type(rng, self.sheet.types.len())
+    }
+}
+
+/// A value type over so many types.
+pub fn value_type(rng: &mut Rng, types: usize) -> ValueType {
+    match rng.below(4) {
+        0 => DYN,
+        1 | 2 if types > 0 => ValueType::reference(rng.index(types)),
+        _ => ValueType(rng.index(13)),
+    }
+}
