@@ -1,4 +1,4 @@
-//! Worked examples on rules 7 and 8, numbered as in READINGS.md.
+//! Worked examples on rules 7 and 8, numbered as in docs/DECISIONS.md.
 
 use compare::answer_plain;
 use sheets::build::{

@@ -1,4 +1,4 @@
-//! Worked examples on function records, parameter lists, shapes and windows, numbered as in READINGS.md.
+//! Worked examples on function records, parameter lists, shapes and windows, numbered as in docs/DECISIONS.md.
 
 use compare::answer_plain;
 use sheets::build::{abc, aw, func, function, import, ret_void, strings, structure, user};

@@ -1,4 +1,4 @@
-//! Worked examples on blocks, layout, host lists and lengths, numbered as in READINGS.md.
+//! Worked examples on blocks, layout, host lists and lengths, numbered as in docs/DECISIONS.md.
 
 use compare::{answer, answer_plain};
 use sheets::build::{abc, aw, func, function, ret_void, scheduler, strings, user};

@@ -1,4 +1,4 @@
-//! Worked examples on the linked table and the family query, numbered as in READINGS.md.
+//! Worked examples on the linked table and the family query, numbered as in docs/DECISIONS.md.
 
 use compare::{answer_plain, query, Linked};
 use sheets::build::{

@@ -1,4 +1,4 @@
-//! Worked examples on types, parents, constants, imports and globals, numbered as in READINGS.md.
+//! Worked examples on types, parents, constants, imports and globals, numbered as in docs/DECISIONS.md.
 
 use compare::answer_plain;
 use sheets::build::{func, import, scheduler, strings, structure, user};
