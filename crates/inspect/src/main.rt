@@ -1,0 +1,126 @@
+// Prints of each file that the arguments name whether it is an intact sheet, and then N and the counts of its parts:
+// strings, types, constants, imports, globals, functions, hooks, start + 1, exports. Then two sheets of the most blocks and one more.
+ghost use Prim.Native.Nat.{_<_};
+use blocks::word;
+use layout::Checked;
+use layout::Layout;
+use libc::STDOUT_FILENO;
+
+fn print_count(n: u64) {
+    io::write_all(STDOUT_FILENO, b" ");
+    io::print_decimal(STDOUT_FILENO, n);
+}
+
+fn print_word(sheet: &[u8], at: usize) {
+    print_count(word(sheet, at) as u64);
+}
+
+fn print_counts(sheet: &[u8], l: Layout) {
+    io::write_all(STDOUT_FILENO, b" intact");
+    print_count(l.words as u64);
+    print_word(sheet, l.strings);
+    print_word(sheet, l.types);
+    print_word(sheet, l.consts);
+    print_word(sheet, l.imports);
+    print_word(sheet, l.globals);
+    print_word(sheet, l.funcs);
+    print_word(sheet, l.hooks);
+    print_word(sheet, l.start);
+    print_word(sheet, l.exports);
+}
+
+fn report(sheet: &[u8]) {
+    match layout::check_sheet(sheet) {
+        Checked::Intact(l) => {
+            print_counts(sheet, l);
+        }
+        Checked::Broken => {
+            io::write_all(STDOUT_FILENO, b" broken");
+        }
+    }
+    io::write_all(STDOUT_FILENO, b"\n");
+}
+
+// Over 16 blocks, or a file that cannot be opened, count as no bytes.
+fn report_file(name: &[u8]) {
+    let mut bytes = [0u8; 8193];
+    let fd = os::open_read(name);
+    if fd < 0 {
+        report(&bytes[..0]);
+        return;
+    }
+    let n = io::read_full(fd, &mut bytes);
+    libc::close(fd);
+    if n < 8193 {
+        report(&bytes[..n]);
+    } else {
+        report(&bytes[..0]);
+    }
+}
+
+fn report_argument(i: usize) {
+    let mut name = io::buffer();
+    let n = os::arg(i, &mut name);
+    io::write_all(STDOUT_FILENO, &name[..n]);
+    report_file(&name[..n]);
+}
+
+fn report_arguments() {
+    let count = os::arg_count();
+    let mut left = count;
+    while 1 < left {
+        report_argument(count - left + 1);
+        left -= 1;
+    }
+}
+
+// Blocks of zero bytes have their number as check word. Block 0 has one string of zeros that fills the rest; its check word is given.
+fn number_blocks(bytes: &mut [u8; 2097664]) {
+    let mut k = 1;
+    while k < 4097 {
+        bytes[512 * k + 508] = (k % 256) as u8;
+        bytes[512 * k + 509] = (k / 256) as u8;
+        k += 1;
+    }
+}
+
+fn put(bytes: &mut [u8; 2097664], at: usize, w: usize)
+    requires { ⌜ at < 2097660 ⌝ }
+{
+    bytes[at] = (w % 256) as u8;
+    bytes[at + 1] = (w / 256 % 256) as u8;
+    bytes[at + 2] = (w / 65536 % 256) as u8;
+}
+
+fn report_front(bytes: &[u8], n: usize) {
+    if n <= bytes.len() {
+        report(&bytes[..n]);
+    }
+}
+
+fn report_array(bytes: &[u8; 2097664], n: usize) {
+    report_front(bytes, n);
+}
+
+// 4,096 blocks are intact, the like with one block more are not.
+fn report_most() {
+    let mut bytes = [0u8; 2097664];
+    number_blocks(&mut bytes);
+    put(&mut bytes, 0, 1);
+    put(&mut bytes, 4, 520192);
+    put(&mut bytes, 8, 1);
+    put(&mut bytes, 12, 2080720);
+    put(&mut bytes, 508, 7342);
+    io::write_all(STDOUT_FILENO, b"4096 blocks");
+    report_array(&bytes, 2097152);
+    put(&mut bytes, 4, 520319);
+    put(&mut bytes, 12, 2081228);
+    put(&mut bytes, 508, 7953);
+    io::write_all(STDOUT_FILENO, b"4097 blocks");
+    report_array(&bytes, 2097664);
+}
+
+fn main() {
+    report_arguments();
+    report_most();
+}
