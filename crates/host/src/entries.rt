@@ -3,7 +3,11 @@ ghost use mathlib.Core.Path.{_≡_};
 ghost use Rattle.blocks.specs.Frame.{firstWords};
 ghost use Rattle.reader.specs.Reader.{codeBelow, listOf};
 ghost use Rattle.reader.specs.Step.{stepOf};
+ghost use Rattle.reader.specs.declared.Step.the-variants.{Next};
+ghost use Rattle.reader.specs.Value.{Whole};
+ghost use Prim.Native.Nat.{_+_};
 ghost use Rattle.host.specs.Host.{hostFn};
+use crate::strings::end_of;
 use blocks::word;
 use reader::Step;
 use reader::skip_string;
@@ -56,4 +60,12 @@ pub fn skip_entries(hosts: &[u8], n: usize, at: usize) -> Step
     } else {
         Step::Broken
     }
+}
+
+// The word of an entry's kind, its last.
+pub fn kind_of(hosts: &[u8], n: usize, at: usize) -> usize
+    requires { ⌜ Whole (hostFn (firstWords (now hosts) n) at) ⌝ }
+    ensures { λ r. ⌜ Next (r + 1) ≡ stepOf (hostFn (firstWords (now (hosts .entry)) n) at) ⌝ }
+{
+    end_of(hosts, n, end_of(hosts, n, at))
 }
