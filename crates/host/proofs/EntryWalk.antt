@@ -52,7 +52,7 @@ entered ws at w f =
     })
 
 -- where a value ends
-ends-at : {A : Type 0} {g : Got A} {a : A} {p q : ℕ} → g ≡ got a p → Next q ≡ stepOf g → q ≡ p
+pub ends-at : {A : Type 0} {g : Got A} {a : A} {p q : ℕ} → g ≡ got a p → Next q ≡ stepOf g → q ≡ p
 ends-at {g = g} e h = arrived g refl h λ b f. let x : got b _ ≡ got _ _ = sym f ∙ e in cc
 
 module _ (ws : List ℕ) (at : ℕ) (w : Whole (hostFn ws at)) where
@@ -73,23 +73,28 @@ module _ (ws : List ℕ) (at : ℕ) (w : Whole (hostFn ws at)) where
         let z : q + 1 ≡ e = omega (arith, i .2) in
         ap Next z ∙ sym (ap stepOf (t .all))
 
+    pub entry-texts : {C : Type 0} → (textAt ws at ≡ entryAt ws at .moduleName → textAt ws p ≡ entryAt ws at .name → C) → C
+    entry-texts f =
+        entered ws at w λ h p₁ q e t.
+        let x : entryAt ws at ≡ h = value-got nobody (t .all) in
+        f
+        (value-got [] (t .owner) ∙ sym (ap (λ (i : HostFn). i .moduleName) x))
+        (value-got [] (ap (string ws) (ends-at (t .owner) m) ∙ t .title) ∙ sym (ap (λ (i : HostFn). i .name) x))
+
     pub named-both : {x y : Bool} (s : List ℕ) (a c : ℕ) → x ≡ true → x ≡ sameText s a ws at → y ≡ sameText s c ws p → y ≡ named (textAt s a) (textAt s c) (entryAt ws at)
     unfolding sameText named
     named-both s a c t f g =
-        entered ws at w λ h p₁ q e k.
-        let x : p ≡ p₁ = ends-at (k .owner) m in
-        let u : textAt ws at ≡ h .moduleName = value-got [] (k .owner) in
-        let v : textAt ws p ≡ h .name = value-got [] (ap (string ws) x ∙ k .title) in
-        let z : true ≡ same (textAt s a) (h .moduleName) = sym t ∙ f ∙ ap (same (textAt s a)) u in
-        g ∙ ap (same (textAt s c)) v ∙ ap (λ b. b && same (textAt s c) (h .name)) z ∙ sym (ap (λ (i : HostFn). same (textAt s a) (i .moduleName) && same (textAt s c) (i .name)) (value-got nobody (k .all)))
+        entry-texts λ u v.
+        g
+        ∙ ap (same (textAt s c)) v
+        ∙ ap (λ b. b && same (textAt s c) (entryAt ws at .name)) (sym t ∙ f ∙ ap (same (textAt s a)) u)
 
   pub named-other : {x : Bool} (s : List ℕ) (a c : ℕ) → x ≡ false → x ≡ sameText s a ws at → false ≡ named (textAt s a) (textAt s c) (entryAt ws at)
   unfolding sameText named
   named-other s a c t f =
-      entered ws at w λ h p₁ q e k.
-      let u : textAt ws at ≡ h .moduleName = value-got [] (k .owner) in
-      let z : false ≡ same (textAt s a) (h .moduleName) = sym t ∙ f ∙ ap (same (textAt s a)) u in
-      ap (λ b. b && same (textAt s c) (h .name)) z ∙ sym (ap (λ (i : HostFn). same (textAt s a) (i .moduleName) && same (textAt s c) (i .name)) (value-got nobody (k .all)))
+      entered ws at w λ h p q e k.
+      let u : textAt ws at ≡ entryAt ws at .moduleName = value-got [] (k .owner) ∙ sym (ap (λ (i : HostFn). i .moduleName) (value-got nobody (k .all))) in
+      ap (λ b. b && same (textAt s c) (entryAt ws at .name)) (sym t ∙ f ∙ ap (same (textAt s a)) u)
 
 pub ruleset walking = (entry-module, entry-name, entry-kind)
 pub ruleset naming = (entry-module, entry-name, named-both, named-other)
