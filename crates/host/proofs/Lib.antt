@@ -3,3 +3,4 @@ pub mod Texts
 pub mod TextSteps
 pub mod EntryWalk
 pub mod PairSteps
+pub mod ListSteps

@@ -1,26 +1,19 @@
--- A walk over the entries finds what the definitions say; the list is broken exactly where nothing is decoded.
+-- A walk over the entries finds what the definitions say.
 use Prim.Native.Nat.{ℕ, suc, _+_, _<_}
 use mathlib.Core.Path.{_≡_, refl, sym, ap, ap₂, _∙_}
-use mathlib.Core.Logic.{_↔_}
 use mathlib.Core.List.{List, [], _∷_}
 use mathlib.Core.Bool.{Bool, true, false, cond, _||_}
-use mathlib.Core.Option.{Option, none, some}
 use native.Mathlib.Omega.{arith}
 use lib.Dec.{eqb, ltb}
 use lib.ListN.{length, getD}
 use borrow.Author.Tests.{lt-ltb, le-ltb}
 use native.Mathlib.Decide.{decLt}
 use Rattle.lists.specs.Lists.{any, firstAt}
-use Rattle.blocks.specs.Blocks.{words, lengthWord}
-use Rattle.host.specs.declared.Listed.{Listed}
-use Rattle.host.specs.declared.Listed.the-variants.{Broken, Intact}
 use Rattle.host.specs.declared.Found.{Found}
 use Rattle.host.specs.declared.Found.the-variants.{At, Missing}
-use Rattle.host.specs.Host.{HostFn, named, lookup, resolved, isScheduler, nobody, decodeHosts}
-use Rattle.host.specs.Listed.{listedFor, listedOf, foundAt, found}
+use Rattle.host.specs.Host.{HostFn, named, lookup, resolved, isScheduler, nobody}
+use Rattle.host.specs.Listed.{foundAt, found}
 use Rattle.host.specs.Seek.{seek}
-
--- ── a lookup ──
 
 -- the entry at place i of the list, counted from k
 abbrev placed : ℕ → List HostFn → ℕ → Found
@@ -72,14 +65,3 @@ seek-none k m n (h ∷ hs) e = go (named m n h) e (seek-none (suc k) m n hs)
     go : (b : Bool) → cond b (At k (eqb (h .kind) 1)) (seek (suc k) m n hs) ≡ Missing → (seek (suc k) m n hs ≡ Missing → any (named m n) hs ≡ false) → (b || any (named m n) hs) ≡ false
     go true e ih = let z : _≡_ {A = ℕ} 0 1 = cc in absurd (omega arith)
     go false e ih = ih e
-
--- ── kind 23 ──
-
--- THE HOST LIST IS BROKEN EXACTLY WHERE NOTHING IS DECODED
-pub listed-broken : (bytes : List ℕ) → (listedOf bytes ≡ Broken) ↔ (decodeHosts bytes ≡ none)
-unfolding listedOf listedFor
-listed-broken bytes = go (lengthWord (words bytes)) (decodeHosts bytes)
-  where
-    go : (n : ℕ) (o : Option (List HostFn)) → (listedFor n o ≡ Broken) ↔ (o ≡ none)
-    go n none = unfold listedFor in (λ e. refl, λ e. refl)
-    go n (some hs) = unfold listedFor in (λ e. let z : _≡_ {A = ℕ} 0 1 = cc in absurd (omega arith), λ e. let z : _≡_ {A = ℕ} 0 1 = cc in absurd (omega arith))
