@@ -97,6 +97,7 @@ module _ (ws : List ℕ) (at : ℕ) (w : Whole (hostFn ws at)) where
       ap (λ b. b && same (textAt s c) (entryAt ws at .name)) (sym t ∙ f ∙ ap (same (textAt s a)) u)
 
 pub ruleset walking = (entry-module, entry-name, entry-kind)
+
 pub ruleset naming = (entry-module, entry-name, named-both, named-other)
 
 -- ── the kind ──

@@ -14,7 +14,15 @@ use crate::strings::same_string;
 use blocks::word;
 
 // The entry has the module and the name that stand in `other`.
-fn is_named(hosts: &[u8], n: usize, at: usize, other: &[u8], m: usize, module: usize, name: usize) -> bool
+fn is_named(
+    hosts: &[u8],
+    n: usize,
+    at: usize,
+    other: &[u8],
+    m: usize,
+    module: usize,
+    name: usize,
+) -> bool
     requires { ⌜ Whole (hostFn (firstWords (now hosts) n) at) × Whole (string (firstWords (now other) m) «module») × Whole (string (firstWords (now other) m) name) ⌝ }
     ensures { λ r. ⌜ r ≡ named (textAt (firstWords (now (other .entry)) m) «module») (textAt (firstWords (now (other .entry)) m) name) (entryAt (firstWords (now (hosts .entry)) n) at) ⌝ }
 {
@@ -25,7 +33,16 @@ fn is_named(hosts: &[u8], n: usize, at: usize, other: &[u8], m: usize, module: u
 }
 
 // The first of `count` entries from `at` on with the module and the name that stand in `other`.
-pub fn find(hosts: &[u8], n: usize, at: usize, count: u32, other: &[u8], m: usize, module: usize, name: usize) -> Found
+pub fn find(
+    hosts: &[u8],
+    n: usize,
+    at: usize,
+    count: u32,
+    other: &[u8],
+    m: usize,
+    module: usize,
+    name: usize,
+) -> Found
     requires { ⌜ Whole (many count hostFn (firstWords (now hosts) n) at) × Whole (string (firstWords (now other) m) «module») × Whole (string (firstWords (now other) m) name) ⌝ }
     ensures { λ r. ⌜ r ≡ seek 0 (textAt (firstWords (now (other .entry)) m) «module») (textAt (firstWords (now (other .entry)) m) name) (entriesAt count (firstWords (now (hosts .entry)) n) at) ⌝ }
 {

@@ -5,15 +5,12 @@ use Rattle.host.proofs.PairSteps.{hosts-whole, looked-up}
 use Rattle.host.proofs.lookup.Statement.{statement}
 use Rattle.host.proofs.lookup.Tie as tie
 
--- src/lib.rt:66:23
 word-requires : tie.Need-word-requires
 word-requires c κs = search needs
 
--- src/lib.rt:66:5
 find-requires : tie.Need-find-requires
 find-requires c κs = search (needs, hosts-whole, looked-up)
 
--- src/lib.rt:62:1
 returns : tie.Need-returns
 returns c = search (needs, hosts-whole, looked-up)
 

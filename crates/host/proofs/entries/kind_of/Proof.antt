@@ -5,15 +5,12 @@ use Rattle.host.proofs.EntryWalk.{walking}
 use Rattle.host.proofs.entries.kind_of.Statement.{statement}
 use Rattle.host.proofs.entries.kind_of.Tie as tie
 
--- src/entries.rt:70:22
 end-of-requires : tie.Need-end-of-requires
 end-of-requires c κs = search (needs, walking)
 
--- src/entries.rt:70:5
 end-of-requires-2 : tie.Need-end-of-requires-2
 end-of-requires-2 c κs = search (needs, walking)
 
--- src/entries.rt:66:1
 returns : tie.Need-returns
 returns c = search (needs, walking)
 

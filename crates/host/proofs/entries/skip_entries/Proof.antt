@@ -13,51 +13,39 @@ Inv-loop hosts n at left₀ p₀ left p = Skips hostFn (firstWords hosts n) at l
 abbrev μ-loop : tie.MeasureT-loop
 μ-loop hosts n at left₀ p₀ left p = left
 
--- src/entries.rt:42:13
 word-requires : tie.Need-word-requires Inv-loop μ-loop
 word-requires c κs = search (needs, skipping)
 
--- src/entries.rt:43:21
 add-p : tie.Need-add-p Inv-loop μ-loop
 add-p c = search (needs, skipping)
 
--- src/entries.rt:44:9
 loop-holds : tie.Need-loop-holds Inv-loop μ-loop
 loop-holds c = search (needs, skipping)
 
--- src/entries.rt:45:19
 skip-entry-requires : tie.Need-skip-entry-requires Inv-loop μ-loop
 skip-entry-requires c κs = search (needs, skipping)
 
--- src/entries.rt:46:28
 enum-known-q : tie.Need-enum-known-q Inv-loop μ-loop
 enum-known-q c = search (needs, skipping)
 
--- src/entries.rt:50:21
 enum-told : tie.Need-enum-told Inv-loop μ-loop
 enum-told c = search (needs, skipping)
 
--- src/entries.rt:50:21
 returns : tie.Need-returns Inv-loop μ-loop
 returns c = search (needs, skipping)
 
--- src/entries.rt:53:13
 sub-left : tie.Need-sub-left Inv-loop μ-loop
 sub-left c = search (needs, skipping)
 
--- src/entries.rt:44:9
 loop-less : tie.Need-loop-less Inv-loop μ-loop
 loop-less c = search (needs, skipping)
 
--- src/entries.rt:44:9
 loop-again : tie.Need-loop-again Inv-loop μ-loop
 loop-again c = search (needs, skipping)
 
--- src/entries.rt:38:1
 returns-2 : tie.Need-returns-2 Inv-loop μ-loop
 returns-2 c = search (needs, skipping)
 
--- src/entries.rt:38:1
 returns-3 : tie.Need-returns-3 Inv-loop μ-loop
 returns-3 c = search (needs, skipping)
 

@@ -5,43 +5,33 @@ use Rattle.host.proofs.EntrySteps.{entering}
 use Rattle.host.proofs.entries.skip_entry.Statement.{statement}
 use Rattle.host.proofs.entries.skip_entry.Tie as tie
 
--- src/entries.rt:29:28
 skip-string-requires : tie.Need-skip-string-requires
 skip-string-requires c κs = search needs
 
--- src/entries.rt:29:20
 enum-known-name : tie.Need-enum-known-name
 enum-known-name c = search needs
 
--- src/entries.rt:30:9
 enum-told : tie.Need-enum-told
 enum-told c = search needs
 
--- src/entries.rt:30:9
 returns : tie.Need-returns
 returns c = search (needs, entering)
 
--- src/entries.rt:32:28
 skip-string-requires-2 : tie.Need-skip-string-requires-2
 skip-string-requires-2 c κs = search needs
 
--- src/entries.rt:32:20
 enum-known-kind : tie.Need-enum-known-kind
 enum-known-kind c = search needs
 
--- src/entries.rt:33:9
 enum-told-2 : tie.Need-enum-told-2
 enum-told-2 c = search needs
 
--- src/entries.rt:33:9
 returns-2 : tie.Need-returns-2
 returns-2 c = search (needs, entering)
 
--- src/entries.rt:35:5
 skip-kind-requires : tie.Need-skip-kind-requires
 skip-kind-requires c κs = search needs
 
--- src/entries.rt:26:1
 returns-3 : tie.Need-returns-3
 returns-3 c = search (needs, entering)
 

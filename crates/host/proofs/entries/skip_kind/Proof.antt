@@ -5,23 +5,18 @@ use Rattle.host.proofs.EntrySteps.{kind-none, kind-next, kind-stop}
 use Rattle.host.proofs.entries.skip_kind.Statement.{statement}
 use Rattle.host.proofs.entries.skip_kind.Tie as tie
 
--- src/entries.rt:16:9
 returns : tie.Need-returns
 returns c = search (needs, kind-none, kind-next, kind-stop)
 
--- src/entries.rt:18:8
 word-requires : tie.Need-word-requires
 word-requires c κs = search needs
 
--- src/entries.rt:19:20
 add-t7 : tie.Need-add-t7
 add-t7 c = search needs
 
--- src/entries.rt:12:1
 returns-2 : tie.Need-returns-2
 returns-2 c = search (needs, kind-none, kind-next, kind-stop)
 
--- src/entries.rt:12:1
 returns-3 : tie.Need-returns-3
 returns-3 c = search (needs, kind-none, kind-next, kind-stop)
 

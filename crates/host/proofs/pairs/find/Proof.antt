@@ -14,47 +14,36 @@ Inv-loop hosts n at count other m «module» name left₀ p₀ place₀ left p p
 abbrev μ-loop : tie.MeasureT-loop
 μ-loop hosts n at count other m «module» name left₀ p₀ place₀ left p place = left
 
--- src/pairs.rt:35:5
 loop-holds : tie.Need-loop-holds Inv-loop μ-loop
 loop-holds c = search (needs, seeking)
 
--- src/pairs.rt:36:13
 kind-of-requires : tie.Need-kind-of-requires Inv-loop μ-loop
 kind-of-requires c κs = search (needs, seeking)
 
--- src/pairs.rt:37:12
 is-named-requires : tie.Need-is-named-requires Inv-loop μ-loop
 is-named-requires c κs = search (needs, seeking)
 
--- src/pairs.rt:38:37
 word-requires : tie.Need-word-requires Inv-loop μ-loop
 word-requires c κs = search (needs, seeking)
 
--- src/pairs.rt:38:13
 returns : tie.Need-returns Inv-loop μ-loop
 returns c = search (needs, seeking)
 
--- src/pairs.rt:40:13
 add-p : tie.Need-add-p Inv-loop μ-loop
 add-p c = omega (arith, kind-within)
 
--- src/pairs.rt:41:9
 add-place : tie.Need-add-place Inv-loop μ-loop
 add-place c = search (needs, seeking)
 
--- src/pairs.rt:42:9
 sub-left : tie.Need-sub-left Inv-loop μ-loop
 sub-left c = search (needs, seeking)
 
--- src/pairs.rt:35:5
 loop-less : tie.Need-loop-less Inv-loop μ-loop
 loop-less c = search (needs, seeking)
 
--- src/pairs.rt:35:5
 loop-again : tie.Need-loop-again Inv-loop μ-loop
 loop-again c = search (needs, seeking)
 
--- src/pairs.rt:28:1
 returns-2 : tie.Need-returns-2 Inv-loop μ-loop
 returns-2 c = search (needs, seeking)
 

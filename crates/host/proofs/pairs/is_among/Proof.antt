@@ -6,27 +6,21 @@ use Rattle.host.proofs.PairSteps.{among-some, among-none}
 use Rattle.host.proofs.pairs.is_among.Statement.{statement}
 use Rattle.host.proofs.pairs.is_among.Tie as tie
 
--- src/pairs.rt:52:9
 end-of-requires : tie.Need-end-of-requires
 end-of-requires c κs = search (needs, entry-module, entry-name, among-some, among-none)
 
--- src/pairs.rt:53:11
 find-requires : tie.Need-find-requires
 find-requires c κs = search (needs, entry-module, entry-name, among-some, among-none)
 
--- src/pairs.rt:54:28
 enum-told : tie.Need-enum-told
 enum-told c = search needs
 
--- src/pairs.rt:55:27
 enum-told-2 : tie.Need-enum-told-2
 enum-told-2 c = search needs
 
--- src/pairs.rt:48:1
 returns : tie.Need-returns
 returns c = search (needs, entry-module, entry-name, among-some, among-none)
 
--- src/pairs.rt:48:1
 returns-2 : tie.Need-returns-2
 returns-2 c = search (needs, entry-module, entry-name, among-some, among-none)
 

@@ -12,47 +12,36 @@ Inv-loop hosts n left₀ p₀ left p = Parts hosts n left p
 abbrev μ-loop : tie.MeasureT-loop
 μ-loop hosts n left₀ p₀ left p = left
 
--- src/pairs.rt:64:9
 word-requires : tie.Need-word-requires Inv-loop μ-loop
 word-requires c κs = search (needs, parting)
 
--- src/pairs.rt:66:5
 loop-holds : tie.Need-loop-holds Inv-loop μ-loop
 loop-holds c = search (needs, parting)
 
--- src/pairs.rt:67:20
 kind-of-requires : tie.Need-kind-of-requires Inv-loop μ-loop
 kind-of-requires c κs = search (needs, parting)
 
--- src/pairs.rt:67:20
 add-next : tie.Need-add-next Inv-loop μ-loop
 add-next c = omega (arith, kind-within)
 
--- src/pairs.rt:68:40
 sub-is-among : tie.Need-sub-is-among Inv-loop μ-loop
 sub-is-among c = search (needs, parting)
 
--- src/pairs.rt:68:12
 is-among-requires : tie.Need-is-among-requires Inv-loop μ-loop
 is-among-requires c κs = search (needs, parting)
 
--- src/pairs.rt:69:13
 returns : tie.Need-returns Inv-loop μ-loop
 returns c = search (needs, parting)
 
--- src/pairs.rt:72:9
 sub-left : tie.Need-sub-left Inv-loop μ-loop
 sub-left c = search (needs, parting)
 
--- src/pairs.rt:66:5
 loop-less : tie.Need-loop-less Inv-loop μ-loop
 loop-less c = search (needs, parting)
 
--- src/pairs.rt:66:5
 loop-again : tie.Need-loop-again Inv-loop μ-loop
 loop-again c = search (needs, parting)
 
--- src/pairs.rt:60:1
 returns-2 : tie.Need-returns-2 Inv-loop μ-loop
 returns-2 c = search (needs, parting)
 

@@ -5,23 +5,18 @@ use Rattle.host.proofs.EntryWalk.{naming}
 use Rattle.host.proofs.pairs.is_named.Statement.{statement}
 use Rattle.host.proofs.pairs.is_named.Tie as tie
 
--- src/pairs.rt:21:8
 same-string-requires : tie.Need-same-string-requires
 same-string-requires c κs = search (needs, naming)
 
--- src/pairs.rt:22:54
 end-of-requires : tie.Need-end-of-requires
 end-of-requires c κs = search (needs, naming)
 
--- src/pairs.rt:22:9
 same-string-requires-2 : tie.Need-same-string-requires-2
 same-string-requires-2 c κs = search (needs, naming)
 
--- src/pairs.rt:22:9
 returns : tie.Need-returns
 returns c = search (needs, naming)
 
--- src/pairs.rt:17:1
 returns-2 : tie.Need-returns-2
 returns-2 c = search (needs, naming)
 

@@ -5,27 +5,21 @@ use Rattle.host.proofs.TextSteps.{text-within, text-end}
 use Rattle.host.proofs.strings.end_of.Statement.{statement}
 use Rattle.host.proofs.strings.end_of.Tie as tie
 
--- src/strings.rt:16:5
 add-result : tie.Need-add-result
 add-result c = omega (arith, text-within)
 
--- src/strings.rt:16:15
 word-requires : tie.Need-word-requires
 word-requires c κs = search needs
 
--- src/strings.rt:16:15
 cast-result : tie.Need-cast-result
 cast-result c = search needs
 
--- src/strings.rt:16:15
 add-result-2 : tie.Need-add-result-2
 add-result-2 c = search needs
 
--- src/strings.rt:16:5
 add-result-3 : tie.Need-add-result-3
 add-result-3 c = omega (arith, text-within)
 
--- src/strings.rt:12:1
 returns : tie.Need-returns
 returns c = search (needs, text-end)
 

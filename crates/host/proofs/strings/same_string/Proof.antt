@@ -11,71 +11,54 @@ Inv-loop a n p b m q length left₀ i₀ j₀ left i j = Compares a n p b m q le
 abbrev μ-loop : tie.MeasureT-loop
 μ-loop a n p b m q length left₀ i₀ j₀ left i j = left
 
--- src/strings.rt:24:9
 word-requires : tie.Need-word-requires Inv-loop μ-loop
 word-requires c κs = search (needs, comparing)
 
--- src/strings.rt:25:18
 word-requires-2 : tie.Need-word-requires-2 Inv-loop μ-loop
 word-requires-2 c κs = search (needs, comparing)
 
--- src/strings.rt:26:9
 returns : tie.Need-returns Inv-loop μ-loop
 returns c = search (needs, comparing)
 
--- src/strings.rt:28:21
 cast-left : tie.Need-cast-left Inv-loop μ-loop
 cast-left c = search (needs, comparing)
 
--- src/strings.rt:28:21
 add-left : tie.Need-add-left Inv-loop μ-loop
 add-left c = search (needs, comparing)
 
--- src/strings.rt:29:17
 add-i : tie.Need-add-i Inv-loop μ-loop
 add-i c = omega (arith, text-within)
 
--- src/strings.rt:30:17
 add-j : tie.Need-add-j Inv-loop μ-loop
 add-j c = omega (arith, text-within)
 
--- src/strings.rt:31:5
 loop-holds : tie.Need-loop-holds Inv-loop μ-loop
 loop-holds c = search (needs, comparing)
 
--- src/strings.rt:32:12
 word-requires-3 : tie.Need-word-requires-3 Inv-loop μ-loop
 word-requires-3 c κs = search (needs, comparing)
 
--- src/strings.rt:32:26
 word-requires-4 : tie.Need-word-requires-4 Inv-loop μ-loop
 word-requires-4 c κs = search (needs, comparing)
 
--- src/strings.rt:33:13
 returns-2 : tie.Need-returns-2 Inv-loop μ-loop
 returns-2 c = search (needs, comparing)
 
--- src/strings.rt:35:9
 add-i-2 : tie.Need-add-i-2 Inv-loop μ-loop
 add-i-2 c = search (needs, comparing)
 
--- src/strings.rt:36:9
 add-j-2 : tie.Need-add-j-2 Inv-loop μ-loop
 add-j-2 c = search (needs, comparing)
 
--- src/strings.rt:37:9
 sub-left : tie.Need-sub-left Inv-loop μ-loop
 sub-left c = search (needs, comparing)
 
--- src/strings.rt:31:5
 loop-less : tie.Need-loop-less Inv-loop μ-loop
 loop-less c = search (needs, comparing)
 
--- src/strings.rt:31:5
 loop-again : tie.Need-loop-again Inv-loop μ-loop
 loop-again c = compares-next _ _ _ _ _ _ _ _ _ (c .before .before .before .before .loop .inv) (c .before .before .before .loop-test .taken) (c .before .before .word3 .ensures) (c .before .word4 .ensures) (c .if2 .left)
 
--- src/strings.rt:20:1
 returns-3 : tie.Need-returns-3 Inv-loop μ-loop
 returns-3 c = search (needs, comparing)
 
