@@ -26,15 +26,20 @@ pub firstWords-at : (b : List ℕ) (n i : ℕ) → i < n → getD (firstWords b 
 unfolding firstWords
 firstWords-at b n i h = getD-take n (words b ++ replicate n 0) i 0 h ∙ getD-zeros (words b) n i
 
+-- a frame has as many words as it says
+pub framed-length : (b ws : List ℕ) → framed b ≡ some ws → (length ws ≡ lengthWord (words b)) × (lengthWord (words b) ≤ length (words b))
+framed-length b ws e =
+    let i = framed-intact b ws e in
+    let w : lengthWord (words b) ≤ length (words b) = omega (arith, length-words b, i .0 .in-block) in
+    (ap length (i .1) ∙ length-take-le (lengthWord (words b)) (words b) w, w)
+
 -- of a frame they are its words
 pub firstWords-framed : (b ws : List ℕ) → framed b ≡ some ws → firstWords b (length ws) ≡ ws
 unfolding firstWords
 firstWords-framed b ws e =
-    let i = framed-intact b ws e in
     let m = lengthWord (words b) in
-    let w : m ≤ length (words b) = omega (arith, length-words b, i .0 .in-block) in
-    let l : length ws ≡ m = ap length (i .1) ∙ length-take-le m (words b) w in
-    ap (λ n. take n (words b ++ replicate n 0)) l ∙ take-append-le m (words b) (replicate m 0) w ∙ sym (i .1)
+    let l = framed-length b ws e in
+    ap (λ n. take n (words b ++ replicate n 0)) (l .0) ∙ take-append-le m (words b) (replicate m 0) (l .1) ∙ sym (framed-intact b ws e .1)
 
 pub firstWords-small : (b : List ℕ) (n : ℕ) → all isByte b ≡ true → all isWord (firstWords b n) ≡ true
 unfolding firstWords
