@@ -1,7 +1,7 @@
 -- A loop that writes where each member of a list stands: left are ahead, it stands at q, and writes to word i next.
 use Prim.Native.Nat.{ℕ, suc, _+_, _-_, _≤_, _<_}
 use mathlib.Core.Path.{_≡_, refl, sym, ap, ap₂, _∙_}
-use mathlib.Core.List.{List, _∷_}
+use mathlib.Core.List.{List, [], _∷_}
 use native.Mathlib.Omega.{arith}
 use native.Mathlib.Numerals.{add-one}
 use lib.ListN.{length, getD, set, drop}
@@ -16,9 +16,11 @@ use Rattle.reader.specs.ReaderLaws.{then-inv}
 use Rattle.reader.specs.Step.{stepOf}
 use Rattle.reader.specs.StepLaws.{arrived, stuck, word-read}
 use Rattle.index.specs.declared.Part.{Part}
-use Rattle.index.specs.Index.{memberOf, Whole, startsOf}
-use Rattle.index.specs.IndexLaws.{many-length, values-is}
-use Rattle.index.proofs.Members.{member-is, member-in, whole-inv, list-in, drop-next, getD-here}
+use Rattle.reader.specs.Value.{Whole}
+use Rattle.reader.specs.ValueLaws.{whole-inv, value-got, list-within}
+use Rattle.index.specs.Index.{memberOf, startsOf}
+use Rattle.index.specs.IndexLaws.{many-length}
+use Rattle.index.proofs.Members.{member-is, member-in, drop-next, getD-here}
 
 pub record Indexes (part : Part) (ws : List ℕ) (at : ℕ) (w₀ : List ℕ) (base : ℕ) (w : List ℕ) (left q i : ℕ) : Type 0 where
   pub room : base + length (startsOf part ws at) ≤ length w₀
@@ -40,8 +42,8 @@ module _ (part : Part) (bytes : List ℕ) (n at : ℕ) (w₀ : List ℕ) (base :
   indexes-start {c} h r k =
       let ws = firstWords bytes n in
       whole-inv (listOf (memberOf part) ws at) h λ xs q e.
-      let m = values-is (listOf (memberOf part) ws at) e in
-      let g = start-go xs q (list-in (memberOf part) bytes n at h) k e in
+      let m = value-got [] e in
+      let g = start-go xs q (list-within (memberOf part) bytes n at h) k e in
       let z : base - base ≡ 0 = omega arith in
       record {
         room = r;

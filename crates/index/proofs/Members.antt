@@ -19,7 +19,7 @@ use Rattle.sheet.specs.Decode.{typeDef, constOf, importOf, functionOf}
 use Rattle.layout.specs.Layout.{posOf}
 use Rattle.index.specs.declared.Part.{Part}
 use Rattle.index.specs.declared.Part.the-variants.{Strings, Types, Consts, Imports, Funcs}
-use Rattle.index.specs.Index.{memberOf, valuesOf, Whole, startsOf}
+use Rattle.index.specs.Index.{memberOf}
 
 -- ── a member ──
 
@@ -76,24 +76,6 @@ member-in part bytes n at s q e = go (decLt at n)
     go : Dec (at < n) → at < n
     go (yes l) = l
     go (no l) = let b = none-past part bytes n at (omega arith) in let z : _≡_ {A = ℕ} 0 1 = cc in absurd (omega arith)
-
--- ── a list that was read ──
-
-pub whole-inv : {A C : Type 0} (g : Got A) → Whole g → ((a : A) (q : ℕ) → g ≡ got a q → C) → C
-unfolding Whole
-whole-inv broken h f = absurd h
-whole-inv (got a q) h f = f a q refl
-
--- a list that was read begins below n
-pub list-in : {A : Type 0} (f : Reader A) (bytes : List ℕ) (n at : ℕ) → Whole (listOf f (firstWords bytes n) at) → at < n
-list-in f bytes n at h = go (decLt at n) h
-  where
-    stuck-list : n ≤ at → listOf f (firstWords bytes n) at ≡ broken
-    stuck-list l = unfold listOf in ap (λ (g : Got ℕ). andThen g (λ c q. many c f (firstWords bytes n) q)) (word-none bytes n at l)
-
-    go : Dec (at < n) → Whole (listOf f (firstWords bytes n) at) → at < n
-    go (yes l) h = l
-    go (no l) h = whole-inv (listOf f (firstWords bytes n) at) h λ xs q e. let b = stuck-list (omega arith) in let z : _≡_ {A = ℕ} 0 1 = cc in absurd (omega arith)
 
 -- ── the rest of a list ──
 

@@ -2,7 +2,8 @@
 use Prim.Native.Nat.{ℕ, _+_}
 use mathlib.Core.List.{List, [], _++_}
 use lib.ListN.{length}
-use Rattle.reader.specs.Reader.{Got, broken, got, Reader, listOf}
+use Rattle.reader.specs.Reader.{Reader, listOf}
+use Rattle.reader.specs.Value.{Whole, valueOf}
 use Rattle.reader.specs.Text.{string}
 use Rattle.sheet.specs.Decode.{typeDef, constOf, importOf, functionOf}
 use Rattle.layout.specs.Layout.{posOf}
@@ -19,19 +20,9 @@ memberOf Consts = posOf constOf
 memberOf Imports = posOf importOf
 memberOf Funcs = posOf functionOf
 
--- the values that were read
-unfoldable pub valuesOf : {A : Type 0} → Got (List A) → List A
-valuesOf broken = []
-valuesOf (got xs q) = xs
-
--- something was read
-unfoldable pub Whole : {A : Type 0} → Got A → Type 0
-Whole broken = ⊥
-Whole (got a q) = Unit {0}
-
 -- where the members of the list at a position stand
 unfoldable pub startsOf : Part → List ℕ → ℕ → List ℕ
-startsOf part ws at = valuesOf (listOf (memberOf part) ws at)
+startsOf part ws at = valueOf [] (listOf (memberOf part) ws at)
 
 -- ── the whole index: the five parts side by side ──
 

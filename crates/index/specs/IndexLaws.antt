@@ -10,7 +10,8 @@ use Rattle.reader.specs.Reader.{Got, broken, got, Reader, andThen, word, many, 
 use Rattle.reader.specs.ReaderLaws.{Codes, then-inv, seq, word-codes}
 use Rattle.reader.specs.ReadLaws.{many-fit}
 use Rattle.layout.specs.Layout.{posOf}
-use Rattle.index.specs.Index.{valuesOf, Whole}
+use Rattle.reader.specs.Value.{Whole, valueOf}
+use Rattle.reader.specs.ValueLaws.{got-whole, value-got}
 
 -- ── positions of any list ──
 
@@ -73,23 +74,15 @@ pub record Indexed {A : Type 0} (f : Reader A) (ws : List ℕ) (at : ℕ) (xs : 
   pub ends : ℕ → ℕ
   pub member : (i : ℕ) (d : A) → i < length xs → f ws (getD starts i 0) ≡ got (getD xs i d) (ends i)
 
-pub got-whole : {A : Type 0} {g : Got A} {a : A} {q : ℕ} → g ≡ got a q → Whole g
-unfolding Whole
-got-whole e = subst Whole (sym e) tt
-
-pub values-is : {A : Type 0} (g : Got (List A)) {xs : List A} {q : ℕ} → g ≡ got xs q → valuesOf g ≡ xs
-unfolding valuesOf
-values-is g e = ap valuesOf e
-
 module _ {A : Type 0} (f : Reader A) (ws : List ℕ) (at : ℕ) (xs : List A) (q : ℕ) where
-  pub indexed : listOf f ws at ≡ got xs q → Indexed f ws at xs (valuesOf (listOf (posOf f) ws at))
+  pub indexed : listOf f ws at ≡ got xs q → Indexed f ws at xs (valueOf [] (listOf (posOf f) ws at))
   unfolding listOf
   indexed e =
       then-inv (word ws at) _ e λ n p₁ e₁ e₂.
       let x = placed f ws n p₁ xs q e₂ in
       let c = many-length n f ws p₁ xs q e₂ in
       let g : listOf (posOf f) ws at ≡ got (x .positions) q = ap (λ (y : Got ℕ). andThen y (λ k p. many k (posOf f) ws p)) e₁ ∙ x .reads in
-      subst (Indexed f ws at xs) (sym (values-is (listOf (posOf f) ws at) g))
+      subst (Indexed f ws at xs) (sym (value-got [] g))
       (record { whole = got-whole g; count = x .count ∙ sym c; ends = x .ends; member = λ i d h. x .member i d (omega (arith, c)) })
 
   -- a word for the count, and one or more for each member

@@ -31,7 +31,7 @@ use Rattle.layout.specs.Layout.{posOf, layoutOf, layout}
 use Rattle.layout.specs.LayoutLaws.{layout-module, Located, located}
 use Rattle.layout.specs.declared.Layout.{Layout}
 use Rattle.index.specs.declared.Part.the-variants.{Strings, Types, Consts, Imports, Funcs}
-use Rattle.index.specs.Index.{memberOf, startsOf, Whole, Indexable, starts}
+use Rattle.index.specs.Index.{memberOf, startsOf, Indexable, starts}
 use Rattle.index.specs.IndexLaws.{Indexed, indexed, list-fit}
 
 -- a sheet with a layout holds a module, and each list stands where the layout says

@@ -3,7 +3,7 @@ use borrow.Author.Needs.{needs}
 use native.Mathlib.Omega.{arith}
 use Rattle.blocks.specs.Frame.{firstWords}
 use Rattle.index.specs.Index.{memberOf}
-use Rattle.index.proofs.Members.{list-in}
+use Rattle.reader.specs.ValueLaws.{list-within}
 use Rattle.index.proofs.Indexing.{Indexes, indexes-start, indexes-end, indexes-after, indexes-next, indexes-going, indexes-length, indexes-room, indexes-in}
 use Rattle.index.proofs.index_part.Statement.{statement}
 use Rattle.index.proofs.index_part.Tie as tie
@@ -18,7 +18,7 @@ word-requires : tie.Need-word-requires Inv-loop μ-loop
 word-requires c κs = search (needs, indexes-start, indexes-next, indexes-going, indexes-after)
 
 add-p : tie.Need-add-p Inv-loop μ-loop
-add-p c = omega (arith, list-in, indexes-room)
+add-p c = omega (arith, list-within, indexes-room)
 
 loop-holds : tie.Need-loop-holds Inv-loop μ-loop
 loop-holds c = search (needs, indexes-start, indexes-next, indexes-going, indexes-after)
