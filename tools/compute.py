@@ -5,7 +5,7 @@
 
 Each case becomes a theorem shown by computing, in a throwaway crate beside a copy of this repository's; a difference is a refused theorem.
 """
-import os, shutil, subprocess, sys, tempfile
+import os, re, shutil, subprocess, sys, tempfile
 
 ROOT = os.path.dirname(os.path.dirname(os.path.abspath(__file__)))
 HEAD = '''-- Cases of the reference.
@@ -61,7 +61,7 @@ def main():
             open(f'{top}/crates/cases/specs/Cases{g}.antt', 'w', encoding='utf-8').write(text)
         open(f'{top}/crates/cases/specs/Lib.antt', 'w').write(''.join(f'pub mod Cases{g}\n' for g in range(len(groups))))
         run = subprocess.run(['rt', 'dev', 'cases'], cwd=top, capture_output=True, text=True)
-        wrong = [l for l in (run.stdout + run.stderr).split('\n') if ' error: ' in l]
+        wrong = [l for l in (run.stdout + run.stderr).split('\n') if re.search(r'\.antt:[0-9]+:[0-9]+: error', l)]
         print('\n'.join(wrong[:20]) or f'{len(lines)} cases computed, no difference')
         sys.exit(1 if wrong or run.returncode else 0)
 

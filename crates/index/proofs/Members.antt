@@ -2,6 +2,7 @@
 use Prim.Native.Nat.{ℕ, _+_, _≤_, _<_}
 use mathlib.Core.Path.{_≡_, refl, sym, ap, subst, _∙_}
 use mathlib.Core.List.{List, [], _∷_}
+use mathlib.Core.Bool.{Bool, true}
 use native.Mathlib.Omega.{arith}
 use native.Mathlib.Decide.{decLt}
 use lib.ListN.{length, getD, drop}
@@ -11,11 +12,21 @@ use Rattle.blocks.specs.Frame.{firstWords}
 use Rattle.reader.specs.declared.Step.{Step}
 use Rattle.reader.specs.declared.Step.the-variants.{Next, Broken}
 use Rattle.reader.specs.Reader.{Got, broken, got, Reader, andThen, word, many, listOf}
-use Rattle.reader.specs.Text.{string}
-use Rattle.reader.specs.ReaderLaws.{then-inv}
+use Rattle.lists.specs.Lists.{all}
+use Rattle.blocks.specs.ByteLaws.{isWord}
+use Rattle.utf8.specs.Utf8.{wellFormed}
+use Rattle.reader.specs.Text.{string, encodeString}
+use Rattle.reader.specs.TextLaws.{string-codes}
+use Rattle.reader.specs.ReaderLaws.{Codes, free, then-inv}
+use Rattle.reader.specs.ReadLaws.{read-inside}
 use Rattle.reader.specs.Step.{stepOf}
 use Rattle.reader.specs.StepLaws.{make, word-none}
+use Rattle.sheet.specs.Module.{Const, plain}
 use Rattle.sheet.specs.Decode.{typeDef, constOf, importOf, functionOf}
+use Rattle.sheet.specs.Encode.{encodeType, encodeConst, encodeImport, encodeFunc}
+use Rattle.sheet.specs.Coded.{codedType, codedFunc}
+use Rattle.sheet.specs.TypeCodes.{type-codes, const-codes}
+use Rattle.sheet.specs.FuncCodes.{import-codes, function-codes}
 use Rattle.layout.specs.Layout.{posOf}
 use Rattle.index.specs.declared.Part.{Part}
 use Rattle.index.specs.declared.Part.the-variants.{Strings, Types, Consts, Imports, Funcs}
@@ -76,6 +87,28 @@ member-in part bytes n at s q e = go (decLt at n)
     go : Dec (at < n) → at < n
     go (yes l) = l
     go (no l) = let b = none-past part bytes n at (omega arith) in let z : _≡_ {A = ℕ} 0 1 = cc in absurd (omega arith)
+
+-- a member that was read ends within the words
+posOf-inside : {A : Type 0} (f : Reader A) (enc : A → List ℕ) (ok : A → Bool) (ws : List ℕ) → Codes ws f enc ok → ((a : A) → 0 < length (enc a)) →
+    (p s q : ℕ) → posOf f ws p ≡ got s q → q ≤ length ws
+unfolding posOf
+posOf-inside f enc ok ws l h p s q e =
+    then-inv (f ws p) _ e λ a p₁ e₁ e₂. let z : p₁ ≡ q = cc in omega (arith, read-inside ws f enc ok l p a p₁ e₁ (h a))
+
+const-some : (k : Const) → 0 < length (encodeConst k)
+unfolding encodeConst
+const-some (plain a b) = omega arith
+const-some (Const.string s) = omega arith
+const-some (Const.array items) = omega arith
+const-some (Const.map entries) = omega arith
+
+pub member-inside : (part : Part) (ws : List ℕ) → all isWord ws ≡ true → (p s q : ℕ) → memberOf part ws p ≡ got s q → q ≤ length ws
+unfolding memberOf encodeString encodeType encodeImport encodeFunc
+member-inside Strings ws w = posOf-inside string encodeString wellFormed ws (string-codes ws w) (λ a. omega arith)
+member-inside Types ws w = posOf-inside typeDef encodeType codedType ws (type-codes ws) (λ a. omega arith)
+member-inside Consts ws w = posOf-inside constOf encodeConst free ws (const-codes ws) const-some
+member-inside Imports ws w = posOf-inside importOf encodeImport free ws (import-codes ws) (λ a. omega arith)
+member-inside Funcs ws w = posOf-inside functionOf encodeFunc codedFunc ws (function-codes ws) (λ a. omega arith)
 
 -- ── the rest of a list ──
 

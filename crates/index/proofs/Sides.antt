@@ -9,7 +9,7 @@ use Rattle.lists.specs.PasteLaws.{paste-paste}
 use Rattle.layout.specs.declared.Layout.{Layout}
 use Rattle.index.specs.declared.Index.{Index}
 use Rattle.index.specs.declared.Part.the-variants.{Strings, Types, Consts, Imports, Funcs}
-use Rattle.index.specs.Index.{startsOf, starts, indexOf}
+use Rattle.index.specs.Index.{edgesOf, index, indexOf}
 
 -- w is w₀ with s over it from word 0 on, and b is the word after it
 pub record Filled (w₀ s w : List ℕ) (b : ℕ) : Type 0 where
@@ -33,25 +33,25 @@ module _ {w₀ s w : List ℕ} {b : ℕ} (x : Filled w₀ s w b) where
 
 -- ── the five parts of a sheet ──
 
-module _ (ws : List ℕ) (l : Layout) (w₀ : List ℕ) (fits : length (starts ws l) ≤ length w₀) where
+module _ (ws : List ℕ) (l : Layout) (w₀ : List ℕ) (fits : length (index ws l) ≤ length w₀) where
   abbrev S₁ : List ℕ
-  S₁ = startsOf Strings ws (l .strings)
+  S₁ = edgesOf Strings ws (l .strings)
 
   abbrev S₂ : List ℕ
-  S₂ = startsOf Types ws (l .types)
+  S₂ = edgesOf Types ws (l .types)
 
   abbrev S₃ : List ℕ
-  S₃ = startsOf Consts ws (l .consts)
+  S₃ = edgesOf Consts ws (l .consts)
 
   abbrev S₄ : List ℕ
-  S₄ = startsOf Imports ws (l .imports)
+  S₄ = edgesOf Imports ws (l .imports)
 
   abbrev S₅ : List ℕ
-  S₅ = startsOf Funcs ws (l .funcs)
+  S₅ = edgesOf Funcs ws (l .funcs)
 
   -- as many as all five
   total : length S₁ + length S₂ + length S₃ + length S₄ + length S₅ ≤ length w₀
-  unfolding starts
+  unfolding index
   total = omega (arith, fits, length-append S₁ S₂, length-append (S₁ ++ S₂) S₃, length-append (S₁ ++ S₂ ++ S₃) S₄, length-append (S₁ ++ S₂ ++ S₃ ++ S₄) S₅)
 
   pub room₁ : 0 + length S₁ ≤ length w₀
@@ -95,8 +95,8 @@ module _ (ws : List ℕ) (l : Layout) (w₀ : List ℕ) (fits : length (starts w
           room₅ = omega (arith, total, n₄, f₄ .next, filled-length f₄ (omega (arith, total, n₄)))
 
           module _ {r₅ : ℕ} {w₅ : List ℕ} (a₅ : r₅ ≡ r₄ + length S₅) (b₅ : w₅ ≡ paste w₄ r₄ S₅ (length S₅)) where
-            pub all-written : w₅ ≡ paste w₀ 0 (starts ws l) (length (starts ws l))
-            unfolding starts
+            pub all-written : w₅ ≡ paste w₀ 0 (index ws l) (length (index ws l))
+            unfolding index
             all-written = filled-next f₄ S₅ a₅ b₅ .words
 
             pub all-placed : record { strings = 0; types = r₁; consts = r₂; imports = r₃; funcs = r₄; end = r₅ } ≡ indexOf ws l

@@ -1,9 +1,9 @@
--- Where the members of a sheet's parts stand.
+-- Where the members of a sheet's parts stand and end.
 use Prim.Native.Nat.{ℕ, _+_}
-use mathlib.Core.List.{List, [], _++_}
+use mathlib.Core.List.{List, [], _∷_, _++_}
 use lib.ListN.{length}
-use Rattle.reader.specs.Reader.{Reader, listOf}
-use Rattle.reader.specs.Value.{Whole, valueOf}
+use Rattle.reader.specs.Reader.{Got, broken, got, Reader, listOf}
+use Rattle.reader.specs.Value.{Whole}
 use Rattle.reader.specs.Text.{string}
 use Rattle.sheet.specs.Decode.{typeDef, constOf, importOf, functionOf}
 use Rattle.layout.specs.Layout.{posOf}
@@ -20,9 +20,14 @@ memberOf Consts = posOf constOf
 memberOf Imports = posOf importOf
 memberOf Funcs = posOf functionOf
 
--- where the members of the list at a position stand
-unfoldable pub startsOf : Part → List ℕ → ℕ → List ℕ
-startsOf part ws at = valueOf [] (listOf (memberOf part) ws at)
+-- where the members of a list stand, and after them where it ends: member i is from edge i to edge i + 1
+unfoldable pub edges : Got (List ℕ) → List ℕ
+edges broken = []
+edges (got ps q) = ps ++ (q ∷ [])
+
+-- of the part's list at a position
+unfoldable pub edgesOf : Part → List ℕ → ℕ → List ℕ
+edgesOf part ws at = edges (listOf (memberOf part) ws at)
 
 -- ── the whole index: the five parts side by side ──
 
@@ -34,19 +39,19 @@ pub record Indexable (ws : List ℕ) (l : Layout) : Type 0 where
   pub imports : Whole (listOf (memberOf Imports) ws (l .imports))
   pub funcs : Whole (listOf (memberOf Funcs) ws (l .funcs))
 
-unfoldable pub starts : List ℕ → Layout → List ℕ
-starts ws l =
-    startsOf Strings ws (l .strings)
-    ++ startsOf Types ws (l .types)
-    ++ startsOf Consts ws (l .consts)
-    ++ startsOf Imports ws (l .imports)
-    ++ startsOf Funcs ws (l .funcs)
+unfoldable pub index : List ℕ → Layout → List ℕ
+index ws l =
+    edgesOf Strings ws (l .strings)
+    ++ edgesOf Types ws (l .types)
+    ++ edgesOf Consts ws (l .consts)
+    ++ edgesOf Imports ws (l .imports)
+    ++ edgesOf Funcs ws (l .funcs)
 
--- where each part's positions begin among them: the strings' at 0
+-- where each part's edges begin among them: the strings' at 0
 unfoldable pub indexOf : List ℕ → Layout → Index
 indexOf ws l =
-    let types = 0 + length (startsOf Strings ws (l .strings)) in
-    let consts = types + length (startsOf Types ws (l .types)) in
-    let imports = consts + length (startsOf Consts ws (l .consts)) in
-    let funcs = imports + length (startsOf Imports ws (l .imports)) in
-    record { strings = 0; types = types; consts = consts; imports = imports; funcs = funcs; end = funcs + length (startsOf Funcs ws (l .funcs)) }
+    let types = 0 + length (edgesOf Strings ws (l .strings)) in
+    let consts = types + length (edgesOf Types ws (l .types)) in
+    let imports = consts + length (edgesOf Consts ws (l .consts)) in
+    let funcs = imports + length (edgesOf Imports ws (l .imports)) in
+    record { strings = 0; types = types; consts = consts; imports = imports; funcs = funcs; end = funcs + length (edgesOf Funcs ws (l .funcs)) }

@@ -10,8 +10,9 @@ use Rattle.reader.specs.Reader.{Got, broken, got, Reader, andThen, word, many, 
 use Rattle.reader.specs.ReaderLaws.{Codes, then-inv, seq, word-codes}
 use Rattle.reader.specs.ReadLaws.{many-fit}
 use Rattle.layout.specs.Layout.{posOf}
-use Rattle.reader.specs.Value.{Whole, valueOf}
-use Rattle.reader.specs.ValueLaws.{got-whole, value-got}
+use Rattle.reader.specs.Value.{Whole}
+use Rattle.reader.specs.ValueLaws.{got-whole}
+use Rattle.index.specs.Index.{edges}
 
 -- ── positions of any list ──
 
@@ -22,13 +23,13 @@ many-length (suc n) f ws p xs q e =
     then-inv (f ws p) _ e λ a p₁ e₁ e₂. then-inv (many n f ws p₁) _ e₂ λ ys p₂ e₃ e₄.
     let h : a ∷ ys ≡ xs = cc in ap length (sym h) ∙ ap suc (many-length n f ws p₁ ys p₂ e₃)
 
--- xs stand from p to q, member i at word i of ps
+-- xs stand from p to q, member i from edge i to edge i + 1
 pub record Placed {A : Type 0} (f : Reader A) (ws : List ℕ) (n p : ℕ) (xs : List A) (q : ℕ) : Type 0 where
   pub positions : List ℕ
   pub reads : many n (posOf f) ws p ≡ got positions q
   pub count : length positions ≡ n
-  pub ends : ℕ → ℕ
-  pub member : (i : ℕ) (d : A) → i < n → f ws (getD positions i 0) ≡ got (getD xs i d) (ends i)
+  pub member : (i : ℕ) (d : A) → i < n → f ws (getD (positions ++ (q ∷ [])) i 0) ≡ got (getD xs i d) (getD (positions ++ (q ∷ [])) (suc i) 0)
+  pub begins : getD (positions ++ (q ∷ [])) 0 0 ≡ p
 
 module _ {A : Type 0} (f : Reader A) (ws : List ℕ) where
   pub placed : (n p : ℕ) (xs : List A) (q : ℕ) → many n f ws p ≡ got xs q → Placed f ws n p xs q
@@ -37,8 +38,8 @@ module _ {A : Type 0} (f : Reader A) (ws : List ℕ) where
     positions = [];
     reads = ap (got []) z;
     count = refl;
-    ends = λ i. 0;
     member = λ i d h. absurd (omega arith);
+    begins = sym z;
   }
   placed (suc n) p xs q e =
       then-inv (f ws p) _ e λ a p₁ e₁ e₂. then-inv (many n f ws p₁) _ e₂ λ ys p₂ e₃ e₄.
@@ -51,39 +52,41 @@ module _ {A : Type 0} (f : Reader A) (ws : List ℕ) where
         positions = p ∷ x .positions;
         reads = first e (x .reads);
         count = ap suc (x .count);
-        ends = ends p₁ (x .ends);
-        member = member (x .ends) (x .member);
+        member = member;
+        begins = refl;
       }
         where
           first : f ws p ≡ got a p₁ → many n (posOf f) ws p₁ ≡ got (x .positions) p₂ → many (suc n) (posOf f) ws p ≡ got (p ∷ x .positions) p₂
           first e k = unfold many posOf in rw (e, k)
 
-          ends : ℕ → (ℕ → ℕ) → ℕ → ℕ
-          ends q g zero = q
-          ends q g (suc i) = g i
+          member : (i : ℕ) (d : A) → i < suc n → f ws (getD (p ∷ x .positions ++ (p₂ ∷ [])) i 0) ≡ got (getD (a ∷ ys) i d) (getD (p ∷ x .positions ++ (p₂ ∷ [])) (suc i) 0)
+          member zero d h = e ∙ ap (got a) (sym (x .begins))
+          member (suc i) d h = x .member i d (omega arith)
 
-          member : (g : ℕ → ℕ) → ((i : ℕ) (d : A) → i < n → f ws (getD (x .positions) i 0) ≡ got (getD ys i d) (g i)) →
-              (i : ℕ) (d : A) → i < suc n → f ws (getD (p ∷ x .positions) i 0) ≡ got (getD (a ∷ ys) i d) (ends p₁ g i)
-          member g k zero d h = e
-          member g k (suc i) d h = k i d (omega arith)
+pub edges-got : {g : Got (List ℕ)} {ps : List ℕ} {q : ℕ} → g ≡ got ps q → edges g ≡ ps ++ (q ∷ [])
+unfolding edges
+edges-got e = ap edges e
 
--- the list at a position, and the words that are its members' positions
-pub record Indexed {A : Type 0} (f : Reader A) (ws : List ℕ) (at : ℕ) (xs : List A) (starts : List ℕ) : Type 0 where
+-- the list at a position, and its edges: one more than members, member i from edge i to edge i + 1
+pub record Indexed {A : Type 0} (f : Reader A) (ws : List ℕ) (at : ℕ) (xs : List A) (es : List ℕ) : Type 0 where
   pub whole : Whole (listOf (posOf f) ws at)
-  pub count : length starts ≡ length xs
-  pub ends : ℕ → ℕ
-  pub member : (i : ℕ) (d : A) → i < length xs → f ws (getD starts i 0) ≡ got (getD xs i d) (ends i)
+  pub count : length es ≡ length xs + 1
+  pub member : (i : ℕ) (d : A) → i < length xs → f ws (getD es i 0) ≡ got (getD xs i d) (getD es (suc i) 0)
 
 module _ {A : Type 0} (f : Reader A) (ws : List ℕ) (at : ℕ) (xs : List A) (q : ℕ) where
-  pub indexed : listOf f ws at ≡ got xs q → Indexed f ws at xs (valueOf [] (listOf (posOf f) ws at))
+  pub indexed : listOf f ws at ≡ got xs q → Indexed f ws at xs (edges (listOf (posOf f) ws at))
   unfolding listOf
   indexed e =
       then-inv (word ws at) _ e λ n p₁ e₁ e₂.
       let x = placed f ws n p₁ xs q e₂ in
       let c = many-length n f ws p₁ xs q e₂ in
       let g : listOf (posOf f) ws at ≡ got (x .positions) q = ap (λ (y : Got ℕ). andThen y (λ k p. many k (posOf f) ws p)) e₁ ∙ x .reads in
-      subst (Indexed f ws at xs) (sym (value-got [] g))
-      (record { whole = got-whole g; count = x .count ∙ sym c; ends = x .ends; member = λ i d h. x .member i d (omega (arith, c)) })
+      subst (Indexed f ws at xs) (sym (edges-got g))
+      (record {
+        whole = got-whole g;
+        count = omega (arith, x .count, c, length-append (x .positions) (q ∷ []));
+        member = λ i d h. x .member i d (omega (arith, c));
+      })
 
   -- a word for the count, and one or more for each member
   pub list-fit : (enc : A → List ℕ) (ok : A → Bool) → Codes ws f enc ok → ((a : A) → 1 ≤ length (enc a)) → listOf f ws at ≡ got xs q → at + 1 + length xs ≤ q

@@ -31,7 +31,7 @@ use Rattle.layout.specs.Layout.{posOf, layoutOf, layout}
 use Rattle.layout.specs.LayoutLaws.{layout-module, Located, located}
 use Rattle.layout.specs.declared.Layout.{Layout}
 use Rattle.index.specs.declared.Part.the-variants.{Strings, Types, Consts, Imports, Funcs}
-use Rattle.index.specs.Index.{memberOf, startsOf, Indexable, starts}
+use Rattle.index.specs.Index.{memberOf, edgesOf, Indexable, index}
 use Rattle.index.specs.IndexLaws.{Indexed, indexed, list-fit}
 
 -- a sheet with a layout holds a module, and each list stands where the layout says
@@ -51,24 +51,24 @@ intact bytes l e f =
 module _ (ws : List ℕ) (m : Module) (l : Layout) (x : Located ws m l) where
   -- ── where the members stand ──
 
-  pub strings-indexed : Indexed string ws (l .strings) (m .strings) (startsOf Strings ws (l .strings))
-  unfolding startsOf memberOf
+  pub strings-indexed : Indexed string ws (l .strings) (m .strings) (edgesOf Strings ws (l .strings))
+  unfolding edgesOf memberOf
   strings-indexed = indexed string ws (l .strings) (m .strings) (l .types) (x .strings)
 
-  pub types-indexed : Indexed typeDef ws (l .types) (m .types) (startsOf Types ws (l .types))
-  unfolding startsOf memberOf
+  pub types-indexed : Indexed typeDef ws (l .types) (m .types) (edgesOf Types ws (l .types))
+  unfolding edgesOf memberOf
   types-indexed = indexed typeDef ws (l .types) (m .types) (l .consts) (x .types)
 
-  pub consts-indexed : Indexed constOf ws (l .consts) (m .consts) (startsOf Consts ws (l .consts))
-  unfolding startsOf memberOf
+  pub consts-indexed : Indexed constOf ws (l .consts) (m .consts) (edgesOf Consts ws (l .consts))
+  unfolding edgesOf memberOf
   consts-indexed = indexed constOf ws (l .consts) (m .consts) (l .imports) (x .consts)
 
-  pub imports-indexed : Indexed importOf ws (l .imports) (m .imports) (startsOf Imports ws (l .imports))
-  unfolding startsOf memberOf
+  pub imports-indexed : Indexed importOf ws (l .imports) (m .imports) (edgesOf Imports ws (l .imports))
+  unfolding edgesOf memberOf
   imports-indexed = indexed importOf ws (l .imports) (m .imports) (l .globals) (x .imports)
 
-  pub funcs-indexed : Indexed functionOf ws (l .funcs) (m .funcs) (startsOf Funcs ws (l .funcs))
-  unfolding startsOf memberOf
+  pub funcs-indexed : Indexed functionOf ws (l .funcs) (m .funcs) (edgesOf Funcs ws (l .funcs))
+  unfolding edgesOf memberOf
   funcs-indexed = indexed functionOf ws (l .funcs) (m .funcs) (l .hooks) (x .funcs)
 
   pub indexable : Indexable ws l
@@ -119,14 +119,14 @@ module _ (ws : List ℕ) (m : Module) (l : Layout) (x : Located ws m l) where
   exports-fit = list-fit exportOf ws (l .exports) (m .exports) (l .words) encodeExport codedExport (export-codes ws) (λ e. unfold encodeExport in omega arith) (x .exports)
 
   -- a word of work for each word of the sheet is room enough
-  pub starts-few : all isWord ws ≡ true → length (starts ws l) ≤ l .words
-  unfolding starts
-  starts-few w =
-      let s₁ = startsOf Strings ws (l .strings) in
-      let s₂ = startsOf Types ws (l .types) in
-      let s₃ = startsOf Consts ws (l .consts) in
-      let s₄ = startsOf Imports ws (l .imports) in
-      let s₅ = startsOf Funcs ws (l .funcs) in
+  pub index-fits : all isWord ws ≡ true → length (index ws l) ≤ l .words
+  unfolding index
+  index-fits w =
+      let s₁ = edgesOf Strings ws (l .strings) in
+      let s₂ = edgesOf Types ws (l .types) in
+      let s₃ = edgesOf Consts ws (l .consts) in
+      let s₄ = edgesOf Imports ws (l .imports) in
+      let s₅ = edgesOf Funcs ws (l .funcs) in
       let n : length (s₁ ++ s₂ ++ s₃ ++ s₄ ++ s₅) ≡ length s₁ + length s₂ + length s₃ + length s₄ + length s₅ =
       omega (arith, length-append s₁ s₂, length-append (s₁ ++ s₂) s₃, length-append (s₁ ++ s₂ ++ s₃) s₄, length-append (s₁ ++ s₂ ++ s₃ ++ s₄) s₅) in
       omega (

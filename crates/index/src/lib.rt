@@ -1,4 +1,4 @@
-// Where each string, type, constant, import and function of an intact sheet stands, written to lent words.
+// Where each string, type, constant, import and function of an intact sheet stands and ends, written to lent words.
 ghost use mathlib.Core.Path.{_≡_};
 ghost use Prim.Native.Nat.{_+_, _≤_, _<_, _^_};
 ghost use lib.ListN.{length};
@@ -7,7 +7,7 @@ ghost use Rattle.blocks.specs.Frame.{firstWords};
 ghost use Rattle.reader.specs.Reader.{listOf};
 ghost use Rattle.reader.specs.Step.{stepOf};
 ghost use Rattle.reader.specs.Value.{Whole};
-ghost use Rattle.index.specs.Index.{memberOf, startsOf, Indexable, starts, indexOf};
+ghost use Rattle.index.specs.Index.{memberOf, edgesOf, Indexable, index, indexOf};
 use blocks::word;
 use layout::Layout;
 use layout::consts::skip_const;
@@ -38,7 +38,7 @@ fn skip_member(sheet: &[u8], n: usize, part: Part, at: usize) -> Step
     }
 }
 
-// Writes where each member of the list at `at` stands to work[base..], and nothing else; gives the word after them.
+// Writes where each member of the list at `at` stands, and where the list ends, to work[base..], and nothing else; gives the word after them.
 pub fn index_part(
     sheet: &[u8],
     n: usize,
@@ -49,9 +49,9 @@ pub fn index_part(
 ) -> usize
     requires { ⌜ Whole (listOf (memberOf part) (firstWords (now sheet) n) at) ⌝ }
     requires { ⌜ n < 2 ^ 32 ⌝ }
-    requires { ⌜ base + length (startsOf part (firstWords (now sheet) n) at) ≤ length (now work) ⌝ }
-    ensures { λ r. ⌜ r ≡ base + length (startsOf part (firstWords (now (sheet .entry)) n) at) ⌝ }
-    ensures { λ r. ⌜ now (work .exit) ≡ paste (now (work .entry)) base (startsOf part (firstWords (now (sheet .entry)) n) at) (length (startsOf part (firstWords (now (sheet .entry)) n) at)) ⌝ }
+    requires { ⌜ base + length (edgesOf part (firstWords (now sheet) n) at) ≤ length (now work) ⌝ }
+    ensures { λ r. ⌜ r ≡ base + length (edgesOf part (firstWords (now (sheet .entry)) n) at) ⌝ }
+    ensures { λ r. ⌜ now (work .exit) ≡ paste (now (work .entry)) base (edgesOf part (firstWords (now (sheet .entry)) n) at) (length (edgesOf part (firstWords (now (sheet .entry)) n) at)) ⌝ }
 {
     let mut left = word(sheet, at);
     let mut p = at + 1;
@@ -69,10 +69,11 @@ pub fn index_part(
         i += 1;
         left -= 1;
     }
-    i
+    work[i] = p as u32;
+    i + 1
 }
 
-// Where each part's positions begin in the index, and where the index ends.
+// Where each part's edges begin in the index, and where the index ends.
 pub struct Index {
     pub strings: usize,
     pub types: usize,
@@ -82,13 +83,13 @@ pub struct Index {
     pub end: usize,
 }
 
-// The positions of all five parts, side by side from word 0 of work on, and nothing else.
+// The edges of all five parts, side by side from word 0 of work on, and nothing else.
 pub fn index_sheet(sheet: &[u8], l: Layout, work: &mut [u32]) -> Index
     requires { ⌜ Indexable (firstWords (now sheet) (l .words)) l ⌝ }
     requires { ⌜ l .words < 2 ^ 32 ⌝ }
-    requires { ⌜ length (starts (firstWords (now sheet) (l .words)) l) ≤ length (now work) ⌝ }
+    requires { ⌜ length (index (firstWords (now sheet) (l .words)) l) ≤ length (now work) ⌝ }
     ensures { λ r. ⌜ r ≡ indexOf (firstWords (now (sheet .entry)) (l .words)) l ⌝ }
-    ensures { λ r. ⌜ now (work .exit) ≡ paste (now (work .entry)) 0 (starts (firstWords (now (sheet .entry)) (l .words)) l) (length (starts (firstWords (now (sheet .entry)) (l .words)) l)) ⌝ }
+    ensures { λ r. ⌜ now (work .exit) ≡ paste (now (work .entry)) 0 (index (firstWords (now (sheet .entry)) (l .words)) l) (length (index (firstWords (now (sheet .entry)) (l .words)) l)) ⌝ }
 {
     let types = index_part(sheet, l.words, Part::Strings, l.strings, work, 0);
     let consts = index_part(sheet, l.words, Part::Types, l.types, work, types);

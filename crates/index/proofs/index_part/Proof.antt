@@ -1,9 +1,12 @@
 -- `index::index_part` meets its contract.
 use borrow.Author.Needs.{needs}
 use native.Mathlib.Omega.{arith}
+use mathlib.Core.Path.{_∙_}
 use Rattle.blocks.specs.Frame.{firstWords}
-use Rattle.index.specs.Index.{memberOf}
+use Rattle.blocks.specs.ByteLaws.{all-bytes}
+use lib.ListN.{length-set}
 use Rattle.reader.specs.ValueLaws.{list-within}
+use Rattle.index.specs.Index.{memberOf}
 use Rattle.index.proofs.Indexing.{Indexes, indexes-start, indexes-end, indexes-after, indexes-next, indexes-going, indexes-length, indexes-room, indexes-in}
 use Rattle.index.proofs.index_part.Statement.{statement}
 use Rattle.index.proofs.index_part.Tie as tie
@@ -15,52 +18,64 @@ abbrev μ-loop : tie.MeasureT-loop
 μ-loop sheet n part at work₀ base left₀ p₀ i₀ work left p i = left
 
 word-requires : tie.Need-word-requires Inv-loop μ-loop
-word-requires c κs = search (needs, indexes-start, indexes-next, indexes-going, indexes-after)
+word-requires c κs = search (needs, indexes-next, indexes-going)
 
 add-p : tie.Need-add-p Inv-loop μ-loop
-add-p c = omega (arith, list-within, indexes-room)
+add-p c = omega (arith, list-within, indexes-room, indexes-in)
 
 loop-holds : tie.Need-loop-holds Inv-loop μ-loop
-loop-holds c = search (needs, indexes-start, indexes-next, indexes-going, indexes-after)
+loop-holds c = indexes-start _ _ _ _ _ _ (all-bytes (c .before .before .before .args .sheet .now) (λ i. omega (arith, c .before .before .shared-slice-known .given i))) (c .before .before .before .pre .0) (c .before .before .before .pre .1 .1) (c .word .ensures)
 
 cast-work : tie.Need-cast-work Inv-loop μ-loop
-cast-work c = omega (arith, indexes-in _ _ _ _ _ _ _ _ _ _ (c .before .loop .inv) (c .loop-test .taken))
+cast-work c = omega (arith, indexes-in _ _ _ _ _ _ _ _ _ _ (c .before .loop .inv))
 
 mul-work : tie.Need-mul-work Inv-loop μ-loop
-mul-work c = search (needs, indexes-start, indexes-next, indexes-going, indexes-after)
+mul-work c = search (needs, indexes-next, indexes-going)
 
 slice-write-work : tie.Need-slice-write-work Inv-loop μ-loop
-slice-write-work c = omega (arith, indexes-room, indexes-length _ _ _ _ _ _ _ _ _ (c .before .loop .inv))
+slice-write-work c = omega (arith, indexes-room _ _ _ _ _ _ _ _ _ (c .before .loop .inv), indexes-length _ _ _ _ _ _ _ _ _ (c .before .loop .inv))
 
 skip-member-requires : tie.Need-skip-member-requires Inv-loop μ-loop
-skip-member-requires c κs = search (needs, indexes-start, indexes-next, indexes-going, indexes-after)
+skip-member-requires c κs = search (needs, indexes-next, indexes-going)
 
 enum-known-q : tie.Need-enum-known-q Inv-loop μ-loop
-enum-known-q c = search (needs, indexes-start, indexes-next, indexes-going, indexes-after)
+enum-known-q c = search (needs, indexes-next, indexes-going)
 
 enum-told : tie.Need-enum-told Inv-loop μ-loop
-enum-told c = search (needs, indexes-start, indexes-next, indexes-going, indexes-after)
+enum-told c = search (needs, indexes-next, indexes-going)
 
 same-length : tie.Need-same-length Inv-loop μ-loop
-same-length c = search (needs, indexes-start, indexes-next, indexes-going, indexes-after)
+same-length c = search (needs, indexes-next, indexes-going)
 
 returns : tie.Need-returns Inv-loop μ-loop
-returns c = search (needs, indexes-start, indexes-next, indexes-going, indexes-after)
+returns c = search (needs, indexes-next, indexes-going)
 
 add-i : tie.Need-add-i Inv-loop μ-loop
-add-i c = search (needs, indexes-start, indexes-next, indexes-going, indexes-after)
+add-i c = search (needs, indexes-next, indexes-going)
 
 sub-left : tie.Need-sub-left Inv-loop μ-loop
-sub-left c = search (needs, indexes-start, indexes-next, indexes-going, indexes-after)
+sub-left c = search (needs, indexes-next, indexes-going)
 
 loop-less : tie.Need-loop-less Inv-loop μ-loop
-loop-less c = search (needs, indexes-start, indexes-next, indexes-going, indexes-after)
+loop-less c = search (needs, indexes-next, indexes-going)
 
 loop-again : tie.Need-loop-again Inv-loop μ-loop
-loop-again c = search (needs, indexes-start, indexes-next, indexes-going, indexes-after)
+loop-again c = search (needs, indexes-next, indexes-going)
+
+cast-work-2 : tie.Need-cast-work-2 Inv-loop μ-loop
+cast-work-2 c = omega (arith, indexes-in _ _ _ _ _ _ _ _ _ _ (c .before .loop .inv))
+
+mul-work-2 : tie.Need-mul-work-2 Inv-loop μ-loop
+mul-work-2 c = search (needs, indexes-next, indexes-going)
+
+slice-write-work-2 : tie.Need-slice-write-work-2 Inv-loop μ-loop
+slice-write-work-2 c = omega (arith, indexes-room _ _ _ _ _ _ _ _ _ (c .before .loop .inv), indexes-length _ _ _ _ _ _ _ _ _ (c .before .loop .inv))
+
+add-result : tie.Need-add-result Inv-loop μ-loop
+add-result c = search (needs, indexes-next, indexes-going)
 
 same-length-2 : tie.Need-same-length-2 Inv-loop μ-loop
-same-length-2 c = indexes-length _ _ _ _ _ _ _ _ _ (c .before .loop .inv)
+same-length-2 c = length-set (c .before .loop .work) (c .before .loop .i) (c .before .loop .p) ∙ indexes-length _ _ _ _ _ _ _ _ _ (c .before .loop .inv)
 
 returns-2 : tie.Need-returns-2 Inv-loop μ-loop
 returns-2 c = (indexes-after _ _ _ _ _ _ _ _ _ (c .before .loop .inv) (c .loop-test .left), indexes-end _ _ _ _ _ _ _ _ _ (c .before .loop .inv) (c .loop-test .left))
@@ -86,5 +101,9 @@ index-part-spec =
     sub-left
     loop-less
     loop-again
+    cast-work-2
+    mul-work-2
+    slice-write-work-2
+    add-result
     same-length-2
     returns-2)
