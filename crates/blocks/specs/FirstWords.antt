@@ -3,14 +3,16 @@ use Prim.Native.Nat.{ℕ, _+_, _≤_, _<_}
 use mathlib.Core.Path.{_≡_, refl, sym, ap, ap₂, _∙_}
 use mathlib.Core.List.{List, _++_}
 use mathlib.Core.Bool.{true}
-use mathlib.Core.Option.{some}
+use mathlib.Core.Option.{Option, none, some}
 use native.Mathlib.Omega.{arith}
 use lib.ListN.{length, getD, take, replicate, length-append, length-replicate}
 use lib.Seq.{length-take-le, getD-take, take-append-le}
 use Rattle.lists.specs.Lists.{all}
 use Rattle.lists.specs.ListLaws.{all-take, all-append, all-replicate}
 use Rattle.blocks.specs.Blocks.{words, lengthWord, framed}
-use Rattle.blocks.specs.Frame.{firstWords}
+use Rattle.blocks.specs.declared.Frame.{Frame}
+use Rattle.blocks.specs.declared.Frame.the-variants.{Broken, Words}
+use Rattle.blocks.specs.Frame.{frameOf, firstWords}
 use Rattle.blocks.specs.ByteLaws.{isByte, isWord}
 use Rattle.blocks.specs.WordLaws.{length-words}
 use Rattle.blocks.specs.FramedLaws.{framed-intact, words-small}
@@ -42,3 +44,15 @@ firstWords-framed b ws e =
 pub firstWords-small : (b : List ℕ) (n : ℕ) → all isByte b ≡ true → all isWord (firstWords b n) ≡ true
 unfolding firstWords
 firstWords-small b n h = all-take isWord n (words b ++ replicate n 0) (all-append isWord (words b) (replicate n 0) (words-small b h) (all-replicate isWord n 0 refl))
+
+-- ── an answer ──
+
+pub frame-found : {C : Type 0} (o : Option (List ℕ)) {r : Frame} {n : ℕ} → r ≡ Words n → r ≡ frameOf o → ((ws : List ℕ) → o ≡ some ws → n ≡ length ws → C) → C
+unfolding frameOf
+frame-found none e f k = let z : _≡_ {A = ℕ} 0 1 = cc in absurd (omega arith)
+frame-found (some ws) e f k = k ws refl (cc)
+
+pub frame-none : (o : Option (List ℕ)) {r : Frame} → r ≡ Broken → r ≡ frameOf o → o ≡ none
+unfolding frameOf
+frame-none none e f = refl
+frame-none (some ws) e f = let z : _≡_ {A = ℕ} 0 1 = cc in absurd (omega arith)

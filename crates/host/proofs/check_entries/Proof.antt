@@ -1,6 +1,5 @@
 -- `host::check_entries` meets its contract.
 use borrow.Author.Needs.{needs}
-use native.Mathlib.Omega.{arith}
 use Rattle.host.proofs.ListSteps.{listing}
 use Rattle.host.proofs.check_entries.Statement.{statement}
 use Rattle.host.proofs.check_entries.Tie as tie
