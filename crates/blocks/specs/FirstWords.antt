@@ -45,28 +45,22 @@ pub firstWords-small : (b : List ℕ) (n : ℕ) → all isByte b ≡ true → al
 unfolding firstWords
 firstWords-small b n h = all-take isWord n (words b ++ replicate n 0) (all-append isWord (words b) (replicate n 0) (words-small b h) (all-replicate isWord n 0 refl))
 
--- ── what code found, read back ──
+-- ── an answer ──
 
-module _ (b : List ℕ) {r : Frame} where
-  found-inv : (o : Option (List ℕ)) {n : ℕ} {C : Type 0} → r ≡ Words n → r ≡ frameOf o → ((ws : List ℕ) → o ≡ some ws → length ws ≡ n → C) → C
-  unfolding frameOf
-  found-inv none e k f = let z : _≡_ {A = ℕ} 0 1 = cc in absurd (omega arith)
-  found-inv (some ws) e k f = f ws refl (cc)
+pub frame-found : {C : Type 0} (o : Option (List ℕ)) {r : Frame} {n : ℕ} → r ≡ Words n → r ≡ frameOf o → ((ws : List ℕ) → o ≡ some ws → n ≡ length ws → C) → C
+unfolding frameOf
+frame-found none e f k = let z : _≡_ {A = ℕ} 0 1 = cc in absurd (omega arith)
+frame-found (some ws) e f k = k ws refl (cc)
 
-  pub frame-found : {n : ℕ} → r ≡ Words n → r ≡ frameOf (framed b) → framed b ≡ some (firstWords b n)
-  frame-found e k = found-inv (framed b) e k λ ws f l. f ∙ ap some (sym (firstWords-framed b ws f) ∙ ap (firstWords b) l)
+pub frame-none : (o : Option (List ℕ)) {r : Frame} → r ≡ Broken → r ≡ frameOf o → o ≡ none
+unfolding frameOf
+frame-none none e f = refl
+frame-none (some ws) e f = let z : _≡_ {A = ℕ} 0 1 = cc in absurd (omega arith)
 
-  -- 127 words for each of 4,096 blocks
-  pub frame-few : {n : ℕ} → r ≡ Words n → r ≡ frameOf (framed b) → n ≤ 520192
-  frame-few e k = found-inv (framed b) e k λ ws f l.
-      let i = framed-intact b ws f in
-      let m = lengthWord (words b) in
-      let w : length (take m (words b)) ≡ m = length-take-le m (words b) (omega (arith, length-words b, i .0 .in-block)) in
-      omega (arith, ap length (i .1), w, i .0 .in-block, i .0 .few-blocks)
-
-  pub frame-broken : r ≡ Broken → r ≡ frameOf (framed b) → framed b ≡ none
-  frame-broken e k = go (framed b) k
-    where
-      go : (o : Option (List ℕ)) → r ≡ frameOf o → o ≡ none
-      go none k = refl
-      go (some ws) k = unfold frameOf in let z : _≡_ {A = ℕ} 0 1 = cc in absurd (omega arith)
+-- 127 words for each of 4,096 blocks
+pub frame-few : (b : List ℕ) {r : Frame} {n : ℕ} → r ≡ Words n → r ≡ frameOf (framed b) → n ≤ 520192
+frame-few b e k = frame-found (framed b) e k λ ws f l.
+    let i = framed-intact b ws f in
+    let m = lengthWord (words b) in
+    let w : length (take m (words b)) ≡ m = length-take-le m (words b) (omega (arith, length-words b, i .0 .in-block)) in
+    omega (arith, ap length (i .1), w, i .0 .in-block, i .0 .few-blocks)

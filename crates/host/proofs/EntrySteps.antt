@@ -1,9 +1,8 @@
 -- Where an entry of the host list ends.
 use Prim.Native.Nat.{ℕ, _+_, _≤_, _<_}
-use mathlib.Core.Path.{_≡_, refl, sym, ap, _∙_}
+use mathlib.Core.Path.{_≡_, sym, ap, _∙_}
 use mathlib.Core.List.{List}
 use lib.ListN.{getD}
-use borrow.Author.Tests.{lt-ltb, le-ltb}
 use Rattle.blocks.specs.Blocks.{words}
 use Rattle.blocks.specs.Frame.{firstWords}
 use Rattle.reader.specs.declared.Step.{Step}
@@ -11,23 +10,24 @@ use Rattle.reader.specs.declared.Step.the-variants.{Next, Broken}
 use Rattle.reader.specs.Reader.{codeBelow}
 use Rattle.reader.specs.Text.{string}
 use Rattle.reader.specs.Step.{stepOf}
-use Rattle.reader.specs.StepLaws.{then-next, then-stop, make, word-read, word-none}
-use Rattle.host.specs.Host.{HostFn, hostFn}
+use Rattle.reader.specs.StepLaws.{then-next, then-stop, make, code-read, code-unlisted, code-none}
+use Rattle.host.specs.Host.{hostFn}
 
 -- ── a kind ──
 
 module _ (bytes : List ℕ) (n at : ℕ) where
   pub kind-none : n ≤ at → Broken ≡ stepOf (codeBelow 2 (firstWords bytes n) at)
-  unfolding codeBelow stepOf
-  kind-none h = rw (word-none bytes n at h)
+  unfolding stepOf
+  kind-none h = sym (ap stepOf (code-none bytes n at 2 h))
 
-  pub kind-next : {w : ℕ} → at < n → w ≡ getD (words bytes) at 0 → w < 2 → Next (at + 1) ≡ stepOf (codeBelow 2 (firstWords bytes n) at)
-  unfolding codeBelow stepOf
-  kind-next {w} h e l = rw (word-read bytes n at h e) (rw (lt-ltb w 2 l))
+  module _ {w : ℕ} (h : at < n) (e : w ≡ getD (words bytes) at 0) where
+    pub kind-next : w < 2 → Next (at + 1) ≡ stepOf (codeBelow 2 (firstWords bytes n) at)
+    unfolding stepOf
+    kind-next l = sym (ap stepOf (code-read bytes n at 2 h e l))
 
-  pub kind-stop : {w : ℕ} → at < n → w ≡ getD (words bytes) at 0 → 2 ≤ w → Broken ≡ stepOf (codeBelow 2 (firstWords bytes n) at)
-  unfolding codeBelow stepOf
-  kind-stop {w} h e l = rw (word-read bytes n at h e) (rw (le-ltb w 2 l))
+    pub kind-stop : 2 ≤ w → Broken ≡ stepOf (codeBelow 2 (firstWords bytes n) at)
+    unfolding stepOf
+    kind-stop l = sym (ap stepOf (code-unlisted bytes n at 2 h e l))
 
 -- ── an entry ──
 

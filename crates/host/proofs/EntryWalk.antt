@@ -1,22 +1,22 @@
 -- For the code that walks entries which were read before.
-use Prim.Native.Nat.{ℕ, suc, _+_, _-_, _≤_, _<_}
+use Prim.Native.Nat.{ℕ, _+_, _<_}
 use mathlib.Core.Path.{_≡_, refl, sym, ap, ap₂, _∙_}
-use mathlib.Core.List.{List, [], _∷_}
+use mathlib.Core.List.{List, []}
 use mathlib.Core.Bool.{Bool, true, false, _&&_}
 use native.Mathlib.Omega.{arith}
 use lib.Dec.{eqb, ltb}
-use lib.ListN.{length, getD}
+use lib.ListN.{getD}
 use Rattle.lists.specs.Lists.{same}
 use Rattle.blocks.specs.Blocks.{words}
 use Rattle.blocks.specs.Frame.{firstWords}
 use Rattle.blocks.specs.FirstWords.{length-firstWords, firstWords-at}
 use Rattle.reader.specs.declared.Step.the-variants.{Next}
-use Rattle.reader.specs.Reader.{Got, got, Reader, pure, word, codeBelow}
+use Rattle.reader.specs.Reader.{Got, got, pure, word, codeBelow}
 use Rattle.reader.specs.Text.{string}
 use Rattle.reader.specs.ReaderLaws.{then-inv, chosen}
 use Rattle.reader.specs.Step.{stepOf}
 use Rattle.reader.specs.StepLaws.{arrived}
-use Rattle.reader.specs.Value.{Whole, valueOf}
+use Rattle.reader.specs.Value.{Whole}
 use Rattle.reader.specs.ValueLaws.{whole-inv, got-whole, value-got}
 use Rattle.host.specs.Host.{HostFn, hostFn, named, nobody}
 use Rattle.host.specs.Listed.{textAt}

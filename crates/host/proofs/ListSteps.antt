@@ -1,26 +1,24 @@
 -- For the code that checks a host list.
 use Prim.Native.Nat.{ℕ}
-use mathlib.Core.Path.{_≡_, refl, sym, ap, ap₂, _∙_}
+use mathlib.Core.Path.{_≡_, refl, sym, ap, _∙_}
 use mathlib.Core.List.{List, []}
 use mathlib.Core.Bool.{Bool, true, false, cond}
-use mathlib.Core.Option.{Option, none, some}
-use native.Mathlib.Omega.{arith}
-use lib.Dec.{eqb}
+use mathlib.Core.Option.{none, some}
 use lib.ListN.{length}
 use borrow.Author.Tests.{eq-eqb, ne-eqb}
 use Rattle.blocks.specs.Blocks.{words, lengthWord, framed}
 use Rattle.blocks.specs.Frame.{frameOf, firstWords}
-use Rattle.blocks.specs.FirstWords.{firstWords-framed}
+use Rattle.blocks.specs.FirstWords.{firstWords-framed, frame-found, frame-none}
 use Rattle.blocks.specs.declared.Frame.{Frame}
 use Rattle.blocks.specs.declared.Frame.the-variants.{Words}
 use Rattle.blocks.specs.declared.Frame.the-variants as frame
 use Rattle.reader.specs.declared.Step.{Step}
 use Rattle.reader.specs.declared.Step.the-variants.{Next}
 use Rattle.reader.specs.declared.Step.the-variants as step
-use Rattle.reader.specs.Reader.{got, listOf, whole, content}
+use Rattle.reader.specs.Reader.{listOf, whole, content}
 use Rattle.reader.specs.Step.{stepOf}
 use Rattle.reader.specs.StepLaws.{arrived, stuck}
-use Rattle.reader.specs.Value.{Whole, valueOf}
+use Rattle.reader.specs.Value.{Whole}
 use Rattle.reader.specs.ValueLaws.{got-whole, value-got}
 use Rattle.host.specs.declared.Listed.{Listed}
 use Rattle.host.specs.declared.Listed.the-variants.{Broken, Intact}
@@ -72,22 +70,10 @@ pub ruleset listing = (entries-stop, entries-whole, entries-elsewhere, pairs-onc
 
 module _ (bytes : List ℕ) where
   pub frame-next : (n : ℕ) {r : Frame} {x : Listed} → r ≡ Words n → r ≡ frameOf (framed bytes) → x ≡ listedIn n (firstWords bytes n) → x ≡ listedOf bytes
-  frame-next n {r} {x} e f k = go (framed bytes) refl f
-    where
-      words-of : (ws : List ℕ) → r ≡ frameOf (some ws) → n ≡ length ws
-      words-of ws h = unfold frameOf in cc
-
-      go : (o : Option (List ℕ)) → framed bytes ≡ o → r ≡ frameOf o → x ≡ listedOf bytes
-      go none q h = unfold frameOf in let z : _≡_ {A = ℕ} 0 1 = cc in absurd (omega arith)
-      go (some ws) q h =
-          k
-          ∙ ap (λ m. listedIn m (firstWords bytes m)) (words-of ws h)
-          ∙ ap (listedIn (length ws)) (firstWords-framed bytes ws q)
-          ∙ sym (listed-framed bytes ws q)
+  frame-next n e f k =
+      frame-found (framed bytes) e f λ ws q l.
+      k ∙ ap (λ m. listedIn m (firstWords bytes m)) l ∙ ap (listedIn (length ws)) (firstWords-framed bytes ws q) ∙ sym (listed-framed bytes ws q)
 
   pub frame-stop : {r : Frame} → r ≡ frame.Broken → r ≡ frameOf (framed bytes) → Broken ≡ listedOf bytes
-  frame-stop {r} e f = go (framed bytes) refl f
-    where
-      go : (o : Option (List ℕ)) → framed bytes ≡ o → r ≡ frameOf o → Broken ≡ listedOf bytes
-      go none q h = unfold listedOf decodeHosts content ifDistinct listedFor in sym (ap (λ o. listedFor (lengthWord (words bytes)) (ifDistinct (content (listOf hostFn) o))) q)
-      go (some ws) q h = unfold frameOf in let z : _≡_ {A = ℕ} 0 1 = cc in absurd (omega arith)
+  unfolding listedOf decodeHosts content ifDistinct listedFor
+  frame-stop e f = sym (ap (λ o. listedFor (lengthWord (words bytes)) (ifDistinct (content (listOf hostFn) o))) (frame-none (framed bytes) e f))

@@ -2,23 +2,22 @@
 use Prim.Native.Nat.{ℕ, suc, _+_, _-_, _≤_, _<_}
 use mathlib.Core.Path.{_≡_, refl, sym, ap, ap₂, _∙_}
 use mathlib.Core.List.{List, [], _∷_}
-use mathlib.Core.Bool.{Bool, true, false, cond, not, _&&_, _||_}
+use mathlib.Core.Bool.{Bool, true, false, cond, not, _&&_}
 use native.Mathlib.Omega.{arith}
 use native.Mathlib.Numerals.{add-one}
 use lib.Dec.{eqb}
-use lib.ListN.{length, getD}
-use Rattle.lists.specs.Lists.{any}
+use lib.ListN.{getD}
 use Rattle.blocks.specs.Blocks.{words}
 use Rattle.blocks.specs.Frame.{firstWords}
 use Rattle.reader.specs.declared.Step.the-variants.{Next}
-use Rattle.reader.specs.Reader.{Got, got, many, listOf}
+use Rattle.reader.specs.Reader.{many, listOf}
 use Rattle.reader.specs.Text.{string}
 use Rattle.reader.specs.Step.{stepOf}
 use Rattle.reader.specs.Value.{Whole, valueOf}
 use Rattle.reader.specs.ValueLaws.{got-whole, value-got, list-whole, list-value, many-first}
 use Rattle.host.specs.declared.Found.{Found}
 use Rattle.host.specs.declared.Found.the-variants.{At, Missing}
-use Rattle.host.specs.Host.{HostFn, hostFn, named, pairsDistinct, nobody}
+use Rattle.host.specs.Host.{hostFn, named, pairsDistinct, nobody}
 use Rattle.host.specs.Listed.{found, hostsIn, textAt}
 use Rattle.host.specs.Seek.{entryAt, entriesAt, seek, isAmong}
 use Rattle.host.specs.SeekLaws.{seek-found, seek-some, seek-none}

@@ -1,12 +1,11 @@
 -- For the code that passes and compares strings that were read before.
 use Prim.Native.Nat.{ℕ, _+_, _-_, _/_, _≤_, _<_}
-use mathlib.Core.Path.{_≡_, refl, sym, ap, ap₂, subst, _∙_}
-use mathlib.Core.List.{List, [], _∷_, _++_}
-use mathlib.Core.Bool.{Bool, true, false}
+use mathlib.Core.Path.{_≡_, sym, ap, ap₂, subst, _∙_}
+use mathlib.Core.List.{List, [], _++_}
+use mathlib.Core.Bool.{true, false}
 use native.Mathlib.Omega.{arith}
-use lib.ListN.{length, getD}
+use lib.ListN.{getD}
 use Rattle.lists.specs.Lists.{concatMap, same}
-use Rattle.lists.specs.ListLaws.{same-self}
 use Rattle.blocks.specs.Blocks.{bytesOf, words}
 use Rattle.blocks.specs.Frame.{firstWords}
 use Rattle.blocks.specs.FirstWords.{length-firstWords, firstWords-at}

@@ -1,8 +1,8 @@
 -- Strings and the words that they stand in.
-use Prim.Native.Nat.{ℕ, zero, suc, _+_, _-_, _*_, _/_, _^_, _≤_, _<_}
+use Prim.Native.Nat.{ℕ, zero, suc, _+_, _*_, _/_, _≤_, _<_}
 use mathlib.Core.Path.{_≡_, refl, sym, ap, ap₂, _∙_}
 use mathlib.Core.List.{List, [], _∷_, _++_}
-use mathlib.Core.Bool.{Bool, true, false, cond, _&&_}
+use mathlib.Core.Bool.{Bool, true, false}
 use native.Mathlib.Omega.{arith}
 use native.Mathlib.Decide.{decLt}
 use lib.Dec.{eqb}
@@ -14,7 +14,7 @@ use Rattle.lists.specs.ListLaws.{and-first, and-second, length-concatMap, same-
 use Rattle.blocks.specs.Blocks.{number, bytesOf}
 use Rattle.blocks.specs.ByteLaws.{length-bytesOf, number-bytesOf}
 use Rattle.utf8.specs.Utf8.{wellFormed}
-use Rattle.reader.specs.Reader.{broken, got, pure, word, many}
+use Rattle.reader.specs.Reader.{got, pure, word, many}
 use Rattle.reader.specs.Text.{wordsFor, goodText, string}
 use Rattle.reader.specs.ReaderLaws.{word-at, word-end, not-broken, then-inv, chosen}
 

@@ -1,9 +1,8 @@
 -- What code says of the host list: broken or its N words, and what a lookup finds.
-use Prim.Native.Nat.{ℕ, suc}
-use mathlib.Core.List.{List, [], _∷_}
-use mathlib.Core.Bool.{Bool, cond}
+use Prim.Native.Nat.{ℕ}
+use mathlib.Core.List.{List, []}
+use mathlib.Core.Bool.{cond}
 use mathlib.Core.Option.{Option, none, some}
-use lib.Dec.{eqb}
 use Rattle.blocks.specs.Blocks.{words, lengthWord}
 use Rattle.reader.specs.Reader.{listOf}
 use Rattle.reader.specs.Text.{string}

@@ -1,4 +1,4 @@
--- Kind 23: the list is broken exactly where nothing is decoded; else what a caller of lookup has.
+-- Kind 23: the host list is broken exactly where nothing is decoded; what a caller of lookup has, where it is intact.
 use Prim.Native.Nat.{ℕ}
 use mathlib.Core.Path.{_≡_, refl, sym, ap, ap₂, _∙_}
 use mathlib.Core.Logic.{_↔_}
@@ -62,8 +62,9 @@ intact bytes n e f =
       read = ap (λ m. listOf hostFn (firstWords bytes m) 2) (sym z) ∙ ap (λ w. listOf hostFn w 2) (firstWords-framed bytes ws k) ∙ r ∙ ap (got hs) z;
     })
 
-pub intact-whole : {bytes : List ℕ} {n : ℕ} {hs : List HostFn} → IntactHosts bytes n hs → Whole (listOf hostFn (firstWords bytes n) 2)
-intact-whole i = got-whole (i .read)
+module _ (bytes : List ℕ) (n : ℕ) {r : Listed} (e : r ≡ Intact n) (f : r ≡ listedOf bytes) where
+  pub hosts-ready : Whole (listOf hostFn (firstWords bytes n) 2)
+  hosts-ready = intact bytes n (sym f ∙ e) λ hs i. got-whole (i .read)
 
-pub intact-hosts : {bytes : List ℕ} {n : ℕ} {hs : List HostFn} → IntactHosts bytes n hs → hostsIn (firstWords bytes n) ≡ hs
-intact-hosts i = value-got [] (i .read)
+  pub hosts-are : decodeHosts bytes ≡ some (hostsIn (firstWords bytes n))
+  hosts-are = intact bytes n (sym f ∙ e) λ hs i. i .decoded ∙ ap some (sym (value-got [] (i .read)))

@@ -65,3 +65,31 @@ seek-none k m n (h ∷ hs) e = go (named m n h) e (seek-none (suc k) m n hs)
     go : (b : Bool) → cond b (At k (eqb (h .kind) 1)) (seek (suc k) m n hs) ≡ Missing → (seek (suc k) m n hs ≡ Missing → any (named m n) hs ≡ false) → (b || any (named m n) hs) ≡ false
     go true e ih = let z : _≡_ {A = ℕ} 0 1 = cc in absurd (omega arith)
     go false e ih = ih e
+
+-- ── for a caller of lookup ──
+
+resolve : {C : Type 0} (b : Bool) (hs : List HostFn) (j : ℕ) {i : ℕ} {x : Bool} → cond b (At j (isScheduler hs j)) Missing ≡ At i x → (b ≡ true → j ≡ i → isScheduler hs j ≡ x → C) → C
+resolve true hs j e k = k refl (cc) (cc)
+resolve false hs j e k = let z : _≡_ {A = ℕ} 0 1 = cc in absurd (omega arith)
+
+module _ (hs : List HostFn) (m n : List ℕ) {r : Found} (f : r ≡ found hs m n) where
+  -- the place, that it is in the list, and what stands there
+  pub found-place : (i : ℕ) (x : Bool) → r ≡ At i x → lookup hs m n ≡ i
+  unfolding found foundAt
+  found-place i x e = resolve (resolved hs (lookup hs m n)) hs (lookup hs m n) (sym f ∙ e) λ t p k. p
+
+  pub found-resolved : (i : ℕ) (x : Bool) → r ≡ At i x → resolved hs (lookup hs m n) ≡ true
+  unfolding found foundAt
+  found-resolved i x e = resolve (resolved hs (lookup hs m n)) hs (lookup hs m n) (sym f ∙ e) λ t p k. t
+
+  pub found-scheduler : (i : ℕ) (x : Bool) → r ≡ At i x → isScheduler hs (lookup hs m n) ≡ x
+  unfolding found foundAt
+  found-scheduler i x e = resolve (resolved hs (lookup hs m n)) hs (lookup hs m n) (sym f ∙ e) λ t p k. k
+
+  pub found-none : r ≡ Missing → resolved hs (lookup hs m n) ≡ false
+  unfolding found foundAt
+  found-none e = go (resolved hs (lookup hs m n)) (sym f ∙ e)
+    where
+      go : (b : Bool) → cond b (At (lookup hs m n) (isScheduler hs (lookup hs m n))) Missing ≡ Missing → b ≡ false
+      go true e = let z : _≡_ {A = ℕ} 0 1 = cc in absurd (omega arith)
+      go false e = refl

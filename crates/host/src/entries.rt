@@ -1,11 +1,11 @@
 // Entries of the host list: module, name, kind.
 ghost use mathlib.Core.Path.{_≡_};
+ghost use Prim.Native.Nat.{_+_};
 ghost use Rattle.blocks.specs.Frame.{firstWords};
+ghost use Rattle.reader.specs.declared.Step.the-variants.{Next};
 ghost use Rattle.reader.specs.Reader.{codeBelow, listOf};
 ghost use Rattle.reader.specs.Step.{stepOf};
-ghost use Rattle.reader.specs.declared.Step.the-variants.{Next};
 ghost use Rattle.reader.specs.Value.{Whole};
-ghost use Prim.Native.Nat.{_+_};
 ghost use Rattle.host.specs.Host.{hostFn};
 use crate::strings::end_of;
 use blocks::word;

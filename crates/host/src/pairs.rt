@@ -23,7 +23,9 @@ fn is_named(
     module: usize,
     name: usize,
 ) -> bool
-    requires { ⌜ Whole (hostFn (firstWords (now hosts) n) at) × Whole (string (firstWords (now other) m) «module») × Whole (string (firstWords (now other) m) name) ⌝ }
+    requires { ⌜ Whole (hostFn (firstWords (now hosts) n) at) ⌝ }
+    requires { ⌜ Whole (string (firstWords (now other) m) «module») ⌝ }
+    requires { ⌜ Whole (string (firstWords (now other) m) name) ⌝ }
     ensures { λ r. ⌜ r ≡ named (textAt (firstWords (now (other .entry)) m) «module») (textAt (firstWords (now (other .entry)) m) name) (entryAt (firstWords (now (hosts .entry)) n) at) ⌝ }
 {
     if same_string(other, m, module, hosts, n, at) {
@@ -43,7 +45,9 @@ pub fn find(
     module: usize,
     name: usize,
 ) -> Found
-    requires { ⌜ Whole (many count hostFn (firstWords (now hosts) n) at) × Whole (string (firstWords (now other) m) «module») × Whole (string (firstWords (now other) m) name) ⌝ }
+    requires { ⌜ Whole (many count hostFn (firstWords (now hosts) n) at) ⌝ }
+    requires { ⌜ Whole (string (firstWords (now other) m) «module») ⌝ }
+    requires { ⌜ Whole (string (firstWords (now other) m) name) ⌝ }
     ensures { λ r. ⌜ r ≡ seek 0 (textAt (firstWords (now (other .entry)) m) «module») (textAt (firstWords (now (other .entry)) m) name) (entriesAt count (firstWords (now (hosts .entry)) n) at) ⌝ }
 {
     let mut left = count;
@@ -63,7 +67,8 @@ pub fn find(
 
 // The pair at `at` stands again among the `count` entries from `next` on.
 fn is_among(hosts: &[u8], n: usize, at: usize, next: usize, count: u32) -> bool
-    requires { ⌜ Whole (hostFn (firstWords (now hosts) n) at) × Whole (many count hostFn (firstWords (now hosts) n) next) ⌝ }
+    requires { ⌜ Whole (hostFn (firstWords (now hosts) n) at) ⌝ }
+    requires { ⌜ Whole (many count hostFn (firstWords (now hosts) n) next) ⌝ }
     ensures { λ r. ⌜ r ≡ isAmong (entriesAt count (firstWords (now (hosts .entry)) n) next) (entryAt (firstWords (now (hosts .entry)) n) at) ⌝ }
 {
     let name = end_of(hosts, n, at);
@@ -78,15 +83,15 @@ pub fn is_distinct(hosts: &[u8], n: usize) -> bool
     requires { ⌜ Whole (listOf hostFn (firstWords (now hosts) n) 2) ⌝ }
     ensures { λ r. ⌜ r ≡ pairsDistinct (hostsIn (firstWords (now (hosts .entry)) n)) ⌝ }
 {
-    let mut left = word(hosts, 2);
+    let mut count = word(hosts, 2);
     let mut p = 3;
-    while 0 < left {
+    while 0 < count {
         let next = kind_of(hosts, n, p) + 1;
-        if is_among(hosts, n, p, next, left - 1) {
+        if is_among(hosts, n, p, next, count - 1) {
             return false;
         }
         p = next;
-        left -= 1;
+        count -= 1;
     }
     true
 }

@@ -1,4 +1,4 @@
-// Strings that were read before: no UTF-8 is looked at again.
+// Strings that were read before: no UTF-8 is looked at again. n and m say in which words they stand.
 ghost use mathlib.Core.Path.{_≡_};
 ghost use Rattle.blocks.specs.Frame.{firstWords};
 ghost use Rattle.reader.specs.declared.Step.the-variants.{Next};
@@ -18,7 +18,8 @@ pub fn end_of(bytes: &[u8], n: usize, at: usize) -> usize
 
 // Strings are equal exactly where their lengths and their words are.
 pub fn same_string(a: &[u8], n: usize, p: usize, b: &[u8], m: usize, q: usize) -> bool
-    requires { ⌜ Whole (string (firstWords (now a) n) p) × Whole (string (firstWords (now b) m) q) ⌝ }
+    requires { ⌜ Whole (string (firstWords (now a) n) p) ⌝ }
+    requires { ⌜ Whole (string (firstWords (now b) m) q) ⌝ }
     ensures { λ r. ⌜ r ≡ sameText (firstWords (now (a .entry)) n) p (firstWords (now (b .entry)) m) q ⌝ }
 {
     let length = word(a, p);

@@ -3,15 +3,14 @@ use Prim.Native.Nat.{ℕ, _+_, _≤_, _<_}
 use mathlib.Core.Path.{_≡_, refl, sym, ap, _∙_}
 use mathlib.Core.List.{List}
 use mathlib.Core.Bool.{Bool, true, false, cond}
-use mathlib.Core.Option.{Option, none, some}
-use native.Mathlib.Omega.{arith}
+use mathlib.Core.Option.{none, some}
 use lib.Dec.{eqb}
 use lib.ListN.{length}
 use borrow.Author.Tests.{eq-eqb, ne-eqb}
-use Rattle.blocks.specs.Blocks.{words, framed}
+use Rattle.blocks.specs.Blocks.{framed}
 use Rattle.blocks.specs.Frame.{firstWords}
 use Rattle.blocks.specs.Frame.{frameOf}
-use Rattle.blocks.specs.FirstWords.{firstWords-framed}
+use Rattle.blocks.specs.FirstWords.{firstWords-framed, frame-found, frame-none}
 use Rattle.blocks.specs.declared.Frame.{Frame}
 use Rattle.blocks.specs.declared.Frame.the-variants.{Words}
 use Rattle.blocks.specs.declared.Frame.the-variants as frame
@@ -149,27 +148,15 @@ module _ (n : ℕ) (bytes : List ℕ) (p₁ p₂ p₃ p₄ p₅ p₆ : ℕ) wher
 
 module _ (bytes : List ℕ) where
   pub framed-next : (n : ℕ) {r : Frame} {x : Checked} → r ≡ Words n → r ≡ frameOf (framed bytes) → x ≡ firstParts n (firstWords bytes n) → x ≡ checkedOf (layout bytes)
-  framed-next n {r} {x} e f k = go (framed bytes) refl f
-    where
-      go : (o : Option (List ℕ)) → framed bytes ≡ o → r ≡ frameOf o → x ≡ checkedOf (layout bytes)
-      go none q h = unfold frameOf in let z : _≡_ {A = ℕ} 0 1 = cc in absurd (omega arith)
-      go (some ws) q h =
-          let l : n ≡ length ws = words-of ws h in
-          k
-          ∙ ap (λ m. firstParts m (firstWords bytes m)) l
-          ∙ ap (firstParts (length ws)) (firstWords-framed bytes ws q)
-          ∙ sym (steps ws (length ws) refl)
-          ∙ sym (opened ws q)
-        where
-          words-of : (ws : List ℕ) → r ≡ frameOf (some ws) → n ≡ length ws
-          words-of ws h = unfold frameOf in cc
-
-          opened : (ws : List ℕ) → framed bytes ≡ some ws → checkedOf (layout bytes) ≡ checkedOf (whole (length ws) (layoutOf ws 2))
-          opened ws q = unfold layout content in ap (λ o. checkedOf (content layoutOf o)) q
+  unfolding layout content
+  framed-next n e f k =
+      frame-found (framed bytes) e f λ ws q l.
+      k
+      ∙ ap (λ m. firstParts m (firstWords bytes m)) l
+      ∙ ap (firstParts (length ws)) (firstWords-framed bytes ws q)
+      ∙ sym (steps ws (length ws) refl)
+      ∙ sym (ap (λ o. checkedOf (content layoutOf o)) q)
 
   pub framed-stop : {r : Frame} → r ≡ frame.Broken → r ≡ frameOf (framed bytes) → Broken ≡ checkedOf (layout bytes)
-  framed-stop {r} e f = go (framed bytes) refl f
-    where
-      go : (o : Option (List ℕ)) → framed bytes ≡ o → r ≡ frameOf o → Broken ≡ checkedOf (layout bytes)
-      go none q h = unfold layout content checkedOf in ap (λ o. checkedOf (content layoutOf o)) (sym q)
-      go (some ws) q h = unfold frameOf in let z : _≡_ {A = ℕ} 0 1 = cc in absurd (omega arith)
+  unfolding layout content checkedOf
+  framed-stop e f = sym (ap (λ o. checkedOf (content layoutOf o)) (frame-none (framed bytes) e f))

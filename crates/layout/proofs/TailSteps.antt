@@ -1,34 +1,16 @@
 -- Where hooks and exports end.
 use Prim.Native.Nat.{ℕ, _+_, _-_, _≤_, _<_}
-use mathlib.Core.Path.{_≡_, refl, sym, ap, _∙_}
+use mathlib.Core.Path.{_≡_, refl}
 use mathlib.Core.List.{List}
 use native.Mathlib.Omega.{arith}
 use native.Mathlib.Decide.{decLt}
 use lib.ListN.{getD}
-use borrow.Author.Tests.{lt-ltb, le-ltb}
 use Rattle.blocks.specs.Blocks.{words}
 use Rattle.blocks.specs.Frame.{firstWords}
-use Rattle.reader.specs.declared.Step.{Step}
 use Rattle.reader.specs.declared.Step.the-variants.{Next, Broken}
-use Rattle.reader.specs.Reader.{Got, broken, got, Reader, andThen, word, codeBelow}
 use Rattle.reader.specs.Step.{stepOf}
-use Rattle.reader.specs.StepLaws.{word-read, word-none}
+use Rattle.reader.specs.StepLaws.{word-read, word-none, code-read, code-unlisted, code-none}
 use Rattle.sheet.specs.Decode.{hookOf, exportOf}
-
--- ── a code ──
-
-module _ (bytes : List ℕ) (n at m : ℕ) {w : ℕ} (h : at < n) (e : w ≡ getD (words bytes) at 0) where
-  listed : w < m → codeBelow m (firstWords bytes n) at ≡ got w (at + 1)
-  unfolding codeBelow
-  listed l = rw (word-read bytes n at h e) (rw (lt-ltb w m l))
-
-  unlisted : m ≤ w → codeBelow m (firstWords bytes n) at ≡ broken
-  unfolding codeBelow
-  unlisted l = rw (word-read bytes n at h e) (rw (le-ltb w m l))
-
-absent : (bytes : List ℕ) (n at m : ℕ) → n ≤ at → codeBelow m (firstWords bytes n) at ≡ broken
-unfolding codeBelow
-absent bytes n at m h = rw (word-none bytes n at h)
 
 three : (at : ℕ) → ((at + 1) + 1) + 1 ≡ at + 3
 three at = omega arith
@@ -39,36 +21,36 @@ module _ (bytes : List ℕ) (n at : ℕ) {w v : ℕ} where
   pub hook-next : at < n → 2 < n - at → w ≡ getD (words bytes) at 0 → v ≡ getD (words bytes) (at + 1) 0 → w < 31 → v < 2 → Next (at + 3) ≡ stepOf (hookOf (firstWords bytes n) at)
   unfolding hookOf stepOf
   hook-next h l e f k m =
-      rw (listed bytes n at 31 h e k, listed bytes n (at + 1) 2 (omega arith) f m, word-read bytes n ((at + 1) + 1) (omega arith) refl, three at)
+      rw (code-read bytes n at 31 h e k, code-read bytes n (at + 1) 2 (omega arith) f m, word-read bytes n ((at + 1) + 1) (omega arith) refl, three at)
 
   pub hook-callee : at < n → 2 < n - at → w ≡ getD (words bytes) at 0 → v ≡ getD (words bytes) (at + 1) 0 → w < 31 → 2 ≤ v → Broken ≡ stepOf (hookOf (firstWords bytes n) at)
   unfolding hookOf stepOf
-  hook-callee h l e f k m = rw (listed bytes n at 31 h e k, unlisted bytes n (at + 1) 2 (omega arith) f m)
+  hook-callee h l e f k m = rw (code-read bytes n at 31 h e k, code-unlisted bytes n (at + 1) 2 (omega arith) f m)
 
 module _ (bytes : List ℕ) (n at : ℕ) where
   pub hook-unlisted : {w : ℕ} → at < n → 2 < n - at → w ≡ getD (words bytes) at 0 → 31 ≤ w → Broken ≡ stepOf (hookOf (firstWords bytes n) at)
   unfolding hookOf stepOf
-  hook-unlisted h l e k = rw (unlisted bytes n at 31 h e k)
+  hook-unlisted h l e k = rw (code-unlisted bytes n at 31 h e k)
 
   pub hook-short : at < n → n - at ≤ 2 → Broken ≡ stepOf (hookOf (firstWords bytes n) at)
   hook-short h l = code (decLt (getD (words bytes) at 0) 31)
     where
       callee : getD (words bytes) at 0 < 31 → (k : at + 1 < n) → Dec (getD (words bytes) (at + 1) 0 < 2) → Broken ≡ stepOf (hookOf (firstWords bytes n) at)
       callee a k (yes b) =
-          unfold hookOf stepOf in rw (listed bytes n at 31 h refl a, listed bytes n (at + 1) 2 k refl b, word-none bytes n ((at + 1) + 1) (omega arith))
-      callee a k (no b) = unfold hookOf stepOf in rw (listed bytes n at 31 h refl a, unlisted bytes n (at + 1) 2 k refl (omega arith))
+          unfold hookOf stepOf in rw (code-read bytes n at 31 h refl a, code-read bytes n (at + 1) 2 k refl b, word-none bytes n ((at + 1) + 1) (omega arith))
+      callee a k (no b) = unfold hookOf stepOf in rw (code-read bytes n at 31 h refl a, code-unlisted bytes n (at + 1) 2 k refl (omega arith))
 
       second : getD (words bytes) at 0 < 31 → Dec (at + 1 < n) → Broken ≡ stepOf (hookOf (firstWords bytes n) at)
       second a (yes k) = callee a k (decLt (getD (words bytes) (at + 1) 0) 2)
-      second a (no k) = unfold hookOf stepOf in rw (listed bytes n at 31 h refl a, absent bytes n (at + 1) 2 (omega arith))
+      second a (no k) = unfold hookOf stepOf in rw (code-read bytes n at 31 h refl a, code-none bytes n (at + 1) 2 (omega arith))
 
       code : Dec (getD (words bytes) at 0 < 31) → Broken ≡ stepOf (hookOf (firstWords bytes n) at)
       code (yes a) = second a (decLt (at + 1) n)
-      code (no a) = unfold hookOf stepOf in rw (unlisted bytes n at 31 h refl (omega arith))
+      code (no a) = unfold hookOf stepOf in rw (code-unlisted bytes n at 31 h refl (omega arith))
 
   pub hook-past : n ≤ at → Broken ≡ stepOf (hookOf (firstWords bytes n) at)
   unfolding hookOf stepOf
-  hook-past h = rw (absent bytes n at 31 h)
+  hook-past h = rw (code-none bytes n at 31 h)
 
 -- ── exports ──
 
@@ -76,11 +58,11 @@ module _ (bytes : List ℕ) (n at : ℕ) {w : ℕ} where
   pub export-next : at < n → 2 < n - at → w ≡ getD (words bytes) at 0 → w < 3 → Next (at + 3) ≡ stepOf (exportOf (firstWords bytes n) at)
   unfolding exportOf stepOf
   export-next h l e k =
-      rw (listed bytes n at 3 h e k, word-read bytes n (at + 1) (omega arith) refl, word-read bytes n ((at + 1) + 1) (omega arith) refl, three at)
+      rw (code-read bytes n at 3 h e k, word-read bytes n (at + 1) (omega arith) refl, word-read bytes n ((at + 1) + 1) (omega arith) refl, three at)
 
   pub export-unlisted : at < n → 2 < n - at → w ≡ getD (words bytes) at 0 → 3 ≤ w → Broken ≡ stepOf (exportOf (firstWords bytes n) at)
   unfolding exportOf stepOf
-  export-unlisted h l e k = rw (unlisted bytes n at 3 h e k)
+  export-unlisted h l e k = rw (code-unlisted bytes n at 3 h e k)
 
 module _ (bytes : List ℕ) (n at : ℕ) where
   pub export-short : at < n → n - at ≤ 2 → Broken ≡ stepOf (exportOf (firstWords bytes n) at)
@@ -88,13 +70,13 @@ module _ (bytes : List ℕ) (n at : ℕ) where
     where
       second : getD (words bytes) at 0 < 3 → Dec (at + 1 < n) → Broken ≡ stepOf (exportOf (firstWords bytes n) at)
       second a (yes k) =
-          unfold exportOf stepOf in rw (listed bytes n at 3 h refl a, word-read bytes n (at + 1) k refl, word-none bytes n ((at + 1) + 1) (omega arith))
-      second a (no k) = unfold exportOf stepOf in rw (listed bytes n at 3 h refl a, word-none bytes n (at + 1) (omega arith))
+          unfold exportOf stepOf in rw (code-read bytes n at 3 h refl a, word-read bytes n (at + 1) k refl, word-none bytes n ((at + 1) + 1) (omega arith))
+      second a (no k) = unfold exportOf stepOf in rw (code-read bytes n at 3 h refl a, word-none bytes n (at + 1) (omega arith))
 
       code : Dec (getD (words bytes) at 0 < 3) → Broken ≡ stepOf (exportOf (firstWords bytes n) at)
       code (yes a) = second a (decLt (at + 1) n)
-      code (no a) = unfold exportOf stepOf in rw (unlisted bytes n at 3 h refl (omega arith))
+      code (no a) = unfold exportOf stepOf in rw (code-unlisted bytes n at 3 h refl (omega arith))
 
   pub export-past : n ≤ at → Broken ≡ stepOf (exportOf (firstWords bytes n) at)
   unfolding exportOf stepOf
-  export-past h = rw (absent bytes n at 3 h)
+  export-past h = rw (code-none bytes n at 3 h)

@@ -1,15 +1,16 @@
--- An answer of code, read back; a word of the first n, as code reads it.
+-- An answer of code, read back; a word or a code of the first n, as code reads it.
 use Prim.Native.Nat.{ℕ, suc, _+_, _≤_, _<_}
 use mathlib.Core.Path.{_≡_, refl, sym, ap, ap₂, _∙_}
 use mathlib.Core.List.{List}
 use native.Mathlib.Omega.{arith}
 use lib.ListN.{length, getD}
+use borrow.Author.Tests.{lt-ltb, le-ltb}
 use Rattle.blocks.specs.Blocks.{words}
 use Rattle.blocks.specs.Frame.{firstWords}
 use Rattle.blocks.specs.FirstWords.{length-firstWords, firstWords-at}
 use Rattle.reader.specs.declared.Step.{Step}
 use Rattle.reader.specs.declared.Step.the-variants.{Next, Broken}
-use Rattle.reader.specs.Reader.{Got, broken, got, andThen, word}
+use Rattle.reader.specs.Reader.{Got, broken, got, andThen, word, codeBelow}
 use Rattle.reader.specs.Step.{stepOf}
 use Rattle.reader.specs.ReaderLaws.{word-at, word-end}
 
@@ -55,6 +56,22 @@ module _ (b : List ℕ) (n at : ℕ) where
   pub word-stop : n ≤ at → Broken ≡ stepOf (word (firstWords b n) at)
   unfolding stepOf
   word-stop h = sym (ap stepOf (word-none h))
+
+-- ── a code below m ──
+
+module _ (b : List ℕ) (n at m : ℕ) where
+  pub code-none : n ≤ at → codeBelow m (firstWords b n) at ≡ broken
+  unfolding codeBelow
+  code-none h = rw (word-none b n at h)
+
+  module _ {w : ℕ} (h : at < n) (e : w ≡ getD (words b) at 0) where
+    pub code-read : w < m → codeBelow m (firstWords b n) at ≡ got w (at + 1)
+    unfolding codeBelow
+    code-read l = rw (word-read b n at h e) (rw (lt-ltb w m l))
+
+    pub code-unlisted : m ≤ w → codeBelow m (firstWords b n) at ≡ broken
+    unfolding codeBelow
+    code-unlisted l = rw (word-read b n at h e) (rw (le-ltb w m l))
 
 -- a code that is at least n, and not n
 pub beyond : (n w : ℕ) → n ≤ w → (w ≡ n → ⊥) → suc n ≤ w

@@ -1,5 +1,4 @@
 -- What was read, for code that runs once the layout is known whole.
-use Prim.Native.Nat.{ℕ}
 use Rattle.reader.specs.Reader.{Got, broken, got}
 
 -- something was read

@@ -1,16 +1,14 @@
 -- What is known of a value that was read.
-use Prim.Native.Nat.{ℕ, zero, suc, _+_, _-_, _/_, _≤_, _<_}
+use Prim.Native.Nat.{ℕ, suc, _+_, _-_, _≤_, _<_}
 use mathlib.Core.Path.{_≡_, refl, sym, ap, subst, _∙_}
-use mathlib.Core.List.{List, [], _∷_}
-use mathlib.Core.Bool.{true, false}
+use mathlib.Core.List.{List, _∷_}
 use native.Mathlib.Omega.{arith}
 use native.Mathlib.Decide.{decLt}
-use lib.ListN.{length, getD}
+use lib.ListN.{getD}
 use Rattle.blocks.specs.Blocks.{words}
 use Rattle.blocks.specs.Frame.{firstWords}
-use Rattle.reader.specs.declared.Step.{Step}
-use Rattle.reader.specs.declared.Step.the-variants.{Next, Broken}
-use Rattle.reader.specs.Reader.{Got, broken, got, Reader, andThen, word, many, listOf}
+use Rattle.reader.specs.declared.Step.the-variants.{Next}
+use Rattle.reader.specs.Reader.{Got, broken, got, Reader, andThen, many, listOf}
 use Rattle.reader.specs.ReaderLaws.{then-inv}
 use Rattle.reader.specs.Step.{stepOf}
 use Rattle.reader.specs.StepLaws.{arrived, word-read, word-none}

@@ -1,6 +1,5 @@
 -- `host::check_entries` meets its contract.
 use borrow.Author.Needs.{needs}
-use native.Mathlib.Omega.{arith}
 use Rattle.host.proofs.ListSteps.{listing}
 use Rattle.host.proofs.check_entries.Statement.{statement}
 use Rattle.host.proofs.check_entries.Tie as tie
@@ -17,11 +16,11 @@ enum-told c = search needs
 returns : tie.Need-returns
 returns c = search (needs, listing)
 
-returns-2 : tie.Need-returns-2
-returns-2 c = search (needs, listing)
-
 is-distinct-requires : tie.Need-is-distinct-requires
 is-distinct-requires c κs = search (needs, listing)
+
+returns-2 : tie.Need-returns-2
+returns-2 c = search (needs, listing)
 
 returns-3 : tie.Need-returns-3
 returns-3 c = search (needs, listing)
@@ -37,7 +36,7 @@ check-entries-spec =
     enum-known-end
     enum-told
     returns
-    returns-2
     is-distinct-requires
+    returns-2
     returns-3
     returns-4)

@@ -1,6 +1,5 @@
 -- `host::check_hosts` meets its contract.
 use borrow.Author.Needs.{needs}
-use native.Mathlib.Omega.{arith}
 use Rattle.host.proofs.ListSteps.{frame-next, frame-stop}
 use Rattle.host.proofs.check_hosts.Statement.{statement}
 use Rattle.host.proofs.check_hosts.Tie as tie

@@ -1,6 +1,5 @@
 -- `host::lookup` meets its contract.
 use borrow.Author.Needs.{needs}
-use native.Mathlib.Omega.{arith}
 use Rattle.host.proofs.PairSteps.{hosts-whole, looked-up}
 use Rattle.host.proofs.lookup.Statement.{statement}
 use Rattle.host.proofs.lookup.Tie as tie

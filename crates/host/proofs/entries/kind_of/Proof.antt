@@ -1,6 +1,5 @@
 -- `host::entries/kind_of` meets its contract.
 use borrow.Author.Needs.{needs}
-use native.Mathlib.Omega.{arith}
 use Rattle.host.proofs.EntryWalk.{walking}
 use Rattle.host.proofs.entries.kind_of.Statement.{statement}
 use Rattle.host.proofs.entries.kind_of.Tie as tie

@@ -1,6 +1,5 @@
 -- `host::entries/skip_entries` meets its contract.
 use borrow.Author.Needs.{needs}
-use native.Mathlib.Omega.{arith}
 use Rattle.blocks.specs.Frame.{firstWords}
 use Rattle.reader.specs.LoopLaws.{Skips, skipping}
 use Rattle.host.specs.Host.{hostFn}

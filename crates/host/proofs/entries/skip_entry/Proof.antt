@@ -1,6 +1,5 @@
 -- `host::entries/skip_entry` meets its contract.
 use borrow.Author.Needs.{needs}
-use native.Mathlib.Omega.{arith}
 use Rattle.host.proofs.EntrySteps.{entering}
 use Rattle.host.proofs.entries.skip_entry.Statement.{statement}
 use Rattle.host.proofs.entries.skip_entry.Tie as tie

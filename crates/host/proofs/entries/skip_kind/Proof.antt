@@ -1,6 +1,5 @@
 -- `host::entries/skip_kind` meets its contract.
 use borrow.Author.Needs.{needs}
-use native.Mathlib.Omega.{arith}
 use Rattle.host.proofs.EntrySteps.{kind-none, kind-next, kind-stop}
 use Rattle.host.proofs.entries.skip_kind.Statement.{statement}
 use Rattle.host.proofs.entries.skip_kind.Tie as tie

@@ -7,10 +7,10 @@ use Rattle.host.proofs.pairs.is_distinct.Statement.{statement}
 use Rattle.host.proofs.pairs.is_distinct.Tie as tie
 
 abbrev Inv-loop : tie.InvT-loop
-Inv-loop hosts n left₀ p₀ left p = Parts hosts n left p
+Inv-loop hosts n count₀ p₀ count p = Parts hosts n count p
 
 abbrev μ-loop : tie.MeasureT-loop
-μ-loop hosts n left₀ p₀ left p = left
+μ-loop hosts n count₀ p₀ count p = count
 
 word-requires : tie.Need-word-requires Inv-loop μ-loop
 word-requires c κs = search (needs, parting)
@@ -33,8 +33,8 @@ is-among-requires c κs = search (needs, parting)
 returns : tie.Need-returns Inv-loop μ-loop
 returns c = search (needs, parting)
 
-sub-left : tie.Need-sub-left Inv-loop μ-loop
-sub-left c = search (needs, parting)
+sub-count : tie.Need-sub-count Inv-loop μ-loop
+sub-count c = search (needs, parting)
 
 loop-less : tie.Need-loop-less Inv-loop μ-loop
 loop-less c = search (needs, parting)
@@ -58,7 +58,7 @@ is-distinct-spec =
     sub-is-among
     is-among-requires
     returns
-    sub-left
+    sub-count
     loop-less
     loop-again
     returns-2)
