@@ -21,7 +21,6 @@ use Rattle.reader.specs.ReaderLaws.{Codes, free, then-inv}
 use Rattle.reader.specs.ReadLaws.{read-inside}
 use Rattle.reader.specs.Step.{stepOf}
 use Rattle.reader.specs.StepLaws.{make, word-none}
-use Rattle.sheet.specs.Module.{Const, plain}
 use Rattle.sheet.specs.Decode.{typeDef, constOf, importOf, functionOf}
 use Rattle.sheet.specs.Encode.{encodeType, encodeConst, encodeImport, encodeFunc}
 use Rattle.sheet.specs.Coded.{codedType, codedFunc}
@@ -31,6 +30,7 @@ use Rattle.layout.specs.Layout.{posOf}
 use Rattle.index.specs.declared.Part.{Part}
 use Rattle.index.specs.declared.Part.the-variants.{Strings, Types, Consts, Imports, Funcs}
 use Rattle.index.specs.Index.{memberOf}
+use Rattle.index.specs.SheetIndex.{const-some}
 
 -- ── a member ──
 
@@ -94,13 +94,6 @@ posOf-inside : {A : Type 0} (f : Reader A) (enc : A → List ℕ) (ok : A → Bo
 unfolding posOf
 posOf-inside f enc ok ws l h p s q e =
     then-inv (f ws p) _ e λ a p₁ e₁ e₂. let z : p₁ ≡ q = cc in omega (arith, read-inside ws f enc ok l p a p₁ e₁ (h a))
-
-const-some : (k : Const) → 0 < length (encodeConst k)
-unfolding encodeConst
-const-some (plain a b) = omega arith
-const-some (Const.string s) = omega arith
-const-some (Const.array items) = omega arith
-const-some (Const.map entries) = omega arith
 
 pub member-inside : (part : Part) (ws : List ℕ) → all isWord ws ≡ true → (p s q : ℕ) → memberOf part ws p ≡ got s q → q ≤ length ws
 unfolding memberOf encodeString encodeType encodeImport encodeFunc

@@ -34,6 +34,13 @@ use Rattle.index.specs.declared.Part.the-variants.{Strings, Types, Const
 use Rattle.index.specs.Index.{memberOf, edgesOf, Indexable, index}
 use Rattle.index.specs.IndexLaws.{Indexed, indexed, list-fit}
 
+pub const-some : (k : Const) → 1 ≤ length (encodeConst k)
+unfolding encodeConst
+const-some (plain a b) = omega arith
+const-some (Const.string s) = omega arith
+const-some (Const.array items) = omega arith
+const-some (Const.map entries) = omega arith
+
 -- a sheet with a layout holds a module, and each list stands where the layout says
 pub intact : (bytes : List ℕ) (l : Layout) {C : Type 0} → layout bytes ≡ some l →
     ((m : Module) → decode bytes ≡ some m → Located (firstWords bytes (l .words)) m l → C) → C
@@ -82,13 +89,6 @@ module _ (ws : List ℕ) (m : Module) (l : Layout) (x : Located ws m l) where
   }
 
   -- ── room ──
-
-  const-some : (k : Const) → 1 ≤ length (encodeConst k)
-  unfolding encodeConst
-  const-some (plain a b) = omega arith
-  const-some (Const.string s) = omega arith
-  const-some (Const.array items) = omega arith
-  const-some (Const.map entries) = omega arith
 
   strings-fit : all isWord ws ≡ true → l .strings + 1 + length (m .strings) ≤ l .types
   strings-fit w =

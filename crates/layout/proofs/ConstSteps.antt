@@ -14,6 +14,7 @@ use Rattle.reader.specs.declared.Step.the-variants.{Next, Broken}
 use Rattle.reader.specs.Reader.{Got, broken, got, Reader, andThen, _>>=_, pure, fail, word, many, listOf}
 use Rattle.reader.specs.Step.{stepOf}
 use Rattle.reader.specs.StepLaws.{word-read, word-none, beyond, arrived, stuck, make}
+use Rattle.reader.specs.AlikeLaws.{three-on}
 use Rattle.reader.specs.RecordSteps.{Sized, sized-next, sized-end, sized-word, sized-list, sized-fit, sized-short}
 use Rattle.sheet.specs.Module.{ValueType, Const, plain, Param, ParamList}
 use Rattle.sheet.specs.Decode.{valueType, plainConst, stringConst, arrayConst, pairOf, mapConst, constBodies, constOf, paramOf, someParams, paramList, importOf, globalOf}
@@ -101,15 +102,11 @@ params-past bytes n at h = rw (word-none bytes n at h)
 
 -- ── imports ──
 
--- three words on
-three : (at : ℕ) → ((at + 1) + 1) + 1 ≡ at + 3
-three at = omega arith
-
 module _ (bytes : List ℕ) (n at : ℕ) where
   pub import-next : {x : Step} → at < n → 2 < n - at → x ≡ stepOf (paramList (firstWords bytes n) (at + 3)) → x ≡ stepOf (importOf (firstWords bytes n) at)
   unfolding importOf
   import-next h l k =
-      rw (word-read bytes n at h refl, word-read bytes n (at + 1) (omega arith) refl, word-read bytes n ((at + 1) + 1) (omega arith) refl, three at)
+      rw (word-read bytes n at h refl, word-read bytes n (at + 1) (omega arith) refl, word-read bytes n ((at + 1) + 1) (omega arith) refl, three-on at)
       (k ∙ sym (make (paramList (firstWords bytes n) (at + 3)) (λ ps. record { moduleName = getD (words bytes) at 0; name = getD (words bytes) (at + 1) 0; sig = getD (words bytes) ((at + 1) + 1) 0; params = ps })))
 
   pub import-short : at < n → n - at ≤ 2 → Broken ≡ stepOf (importOf (firstWords bytes n) at)

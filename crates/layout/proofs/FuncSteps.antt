@@ -13,6 +13,7 @@ use Rattle.reader.specs.declared.Step.the-variants.{Next, Broken}
 use Rattle.reader.specs.Reader.{Got, broken, got, Reader, andThen, _>>=_, pure, fail, word, many, listOf}
 use Rattle.reader.specs.Step.{stepOf}
 use Rattle.reader.specs.StepLaws.{word-read, word-none, arrived, stuck, make}
+use Rattle.reader.specs.AlikeLaws.{two-on, ends-alike, then-alike, into-alike}
 use Rattle.reader.specs.RecordSteps.{Sized, sized-next, sized-end, sized-word, sized-list, lists-alike}
 use Rattle.sheet.specs.Module.{ValueType, Arg, Handler, Switch, Inst, opcode}
 use Rattle.sheet.specs.Decode.{valueType, paramList, argOf, handlerOf, switchOf, knownCode, instOf, functionOf}
@@ -47,13 +48,10 @@ switch-stop ws at e k = rw (stuck (listOf word ws at) e (sized-list sized-word w
 
 -- ── instructions ──
 
-two : (at : ℕ) → (at + 1) + 1 ≡ at + 2
-two at = omega arith
-
 module _ (bytes : List ℕ) (n at : ℕ) {w : ℕ} where
   pub inst-next : at < n → at + 1 < n → w ≡ getD (words bytes) at 0 → w % 256 < 35 → Next (at + 2) ≡ stepOf (instOf (firstWords bytes n) at)
   unfolding instOf knownCode opcode stepOf
-  inst-next h l e k = rw (word-read bytes n at h e, word-read bytes n (at + 1) l refl, lt-ltb (w % 256) 35 k, two at)
+  inst-next h l e k = rw (word-read bytes n at h e, word-read bytes n (at + 1) l refl, lt-ltb (w % 256) 35 k, two-on at)
 
   pub inst-unlisted : at < n → at + 1 < n → w ≡ getD (words bytes) at 0 → 35 ≤ w % 256 → Broken ≡ stepOf (instOf (firstWords bytes n) at)
   unfolding instOf knownCode opcode stepOf
@@ -108,23 +106,6 @@ module _ (bytes : List ℕ) (n at : ℕ) where
   unfolding frameHalf stepOf
   frame-past h = rw (word-none bytes n at h)
 
-ends-alike : {A B : Type 0} (a : A) (b : B) (q : ℕ) → stepOf (got a q) ≡ stepOf (got b q)
-unfolding stepOf
-ends-alike a b q = refl
-
--- two readers in a row that end alike
-alike : {A B C : Type 0} (g : Got A) (k : A → ℕ → Got B) (l : A → ℕ → Got C) → ((a : A) (q : ℕ) → stepOf (k a q) ≡ stepOf (l a q)) → stepOf (andThen g k) ≡ stepOf (andThen g l)
-unfolding stepOf
-alike broken k l h = refl
-alike (got a q) k l h = h a q
-
--- the first readers of a row taken together
-into : {A B C D : Type 0} (g : Got A) (k : A → ℕ → Got B) (f : A → ℕ → Got C) (l : C → ℕ → Got D) →
-    ((a : A) (q : ℕ) → stepOf (k a q) ≡ stepOf (andThen (f a q) l)) → stepOf (andThen g k) ≡ stepOf (andThen (andThen g f) l)
-unfolding stepOf
-into broken k f l h = refl
-into (got a q) k f l h = h a q
-
 module _ (ws : List ℕ) where
   pub body-next : (at p : ℕ) {r x : Step} → r ≡ Next p → r ≡ stepOf (listOf switchOf ws at) → x ≡ stepOf (listOf instOf ws p) → x ≡ stepOf (bodyOf ws at)
   unfolding bodyOf
@@ -165,16 +146,16 @@ module _ (ws : List ℕ) where
   halves : (at : ℕ) → stepOf (functionOf ws at) ≡ stepOf (andThen (frameHalf ws at) (λ s p. codeHalf ws p))
   unfolding functionOf frameHalf codeHalf bodyOf
   halves at =
-      into (word ws at) _ _ _ λ s p₁.
-      into (listOf valueType ws p₁) _ _ _ λ rs p₂.
-      into (paramList ws p₂) _ _ _ λ ps p₃.
-      into (listOf (listOf argOf) ws p₃) _ _ _ λ ss p₄.
-      into (listOf valueType ws p₄) _ _ _ λ cs p₅.
-      alike (listOf word ws p₅) _ _ λ ns p₆.
-      alike (listOf word ws p₆) _ _ λ ts p₇.
-      alike (listOf handlerOf ws p₇) _ _ λ hs p₈.
-      alike (listOf switchOf ws p₈) _ _ λ tables p₉.
-      alike (listOf instOf ws p₉) _ _ λ is q. ends-alike _ _ q
+      into-alike (word ws at) _ _ _ λ s p₁.
+      into-alike (listOf valueType ws p₁) _ _ _ λ rs p₂.
+      into-alike (paramList ws p₂) _ _ _ λ ps p₃.
+      into-alike (listOf (listOf argOf) ws p₃) _ _ _ λ ss p₄.
+      into-alike (listOf valueType ws p₄) _ _ _ λ cs p₅.
+      then-alike (listOf word ws p₅) _ _ λ ns p₆.
+      then-alike (listOf word ws p₆) _ _ λ ts p₇.
+      then-alike (listOf handlerOf ws p₇) _ _ λ hs p₈.
+      then-alike (listOf switchOf ws p₈) _ _ λ tables p₉.
+      then-alike (listOf instOf ws p₉) _ _ λ is q. ends-alike _ _ q
 
   pub function-next : (at p : ℕ) {r x : Step} → r ≡ Next p → r ≡ stepOf (frameHalf ws at) → x ≡ stepOf (codeHalf ws p) → x ≡ stepOf (functionOf ws at)
   function-next at p a b k = arrived (frameHalf ws at) a b λ s g. k ∙ sym (halves at ∙ ap (λ (x : Got ℕ). stepOf (andThen x (λ s q. codeHalf ws q))) g)

@@ -10,10 +10,8 @@ use Rattle.blocks.specs.Frame.{firstWords}
 use Rattle.reader.specs.declared.Step.the-variants.{Next, Broken}
 use Rattle.reader.specs.Step.{stepOf}
 use Rattle.reader.specs.StepLaws.{word-read, word-none, code-read, code-unlisted, code-none}
+use Rattle.reader.specs.AlikeLaws.{three-on}
 use Rattle.sheet.specs.Decode.{hookOf, exportOf}
-
-three : (at : ℕ) → ((at + 1) + 1) + 1 ≡ at + 3
-three at = omega arith
 
 -- ── hooks ──
 
@@ -21,7 +19,7 @@ module _ (bytes : List ℕ) (n at : ℕ) {w v : ℕ} where
   pub hook-next : at < n → 2 < n - at → w ≡ getD (words bytes) at 0 → v ≡ getD (words bytes) (at + 1) 0 → w < 31 → v < 2 → Next (at + 3) ≡ stepOf (hookOf (firstWords bytes n) at)
   unfolding hookOf stepOf
   hook-next h l e f k m =
-      rw (code-read bytes n at 31 h e k, code-read bytes n (at + 1) 2 (omega arith) f m, word-read bytes n ((at + 1) + 1) (omega arith) refl, three at)
+      rw (code-read bytes n at 31 h e k, code-read bytes n (at + 1) 2 (omega arith) f m, word-read bytes n ((at + 1) + 1) (omega arith) refl, three-on at)
 
   pub hook-callee : at < n → 2 < n - at → w ≡ getD (words bytes) at 0 → v ≡ getD (words bytes) (at + 1) 0 → w < 31 → 2 ≤ v → Broken ≡ stepOf (hookOf (firstWords bytes n) at)
   unfolding hookOf stepOf
@@ -58,7 +56,7 @@ module _ (bytes : List ℕ) (n at : ℕ) {w : ℕ} where
   pub export-next : at < n → 2 < n - at → w ≡ getD (words bytes) at 0 → w < 3 → Next (at + 3) ≡ stepOf (exportOf (firstWords bytes n) at)
   unfolding exportOf stepOf
   export-next h l e k =
-      rw (code-read bytes n at 3 h e k, word-read bytes n (at + 1) (omega arith) refl, word-read bytes n ((at + 1) + 1) (omega arith) refl, three at)
+      rw (code-read bytes n at 3 h e k, word-read bytes n (at + 1) (omega arith) refl, word-read bytes n ((at + 1) + 1) (omega arith) refl, three-on at)
 
   pub export-unlisted : at < n → 2 < n - at → w ≡ getD (words bytes) at 0 → 3 ≤ w → Broken ≡ stepOf (exportOf (firstWords bytes n) at)
   unfolding exportOf stepOf

@@ -12,13 +12,10 @@ use Rattle.reader.specs.declared.Step.the-variants.{Next, Broken}
 use Rattle.reader.specs.Reader.{Got, broken, got, Reader, andThen, _>>=_, pure, fail, word, many, listOf}
 use Rattle.reader.specs.Step.{stepOf}
 use Rattle.reader.specs.StepLaws.{word-read, word-none, beyond, arrived, stuck, make}
+use Rattle.reader.specs.AlikeLaws.{two-on}
 use Rattle.reader.specs.RecordSteps.{Sized, sized-next, sized-end, sized-list}
 use Rattle.sheet.specs.Module.{ValueType, Method, TypeDef, func, coroutine, cell, iter}
 use Rattle.sheet.specs.Decode.{valueType, fieldOf, methodOf, funcType, structType, ofOne, ofTwo, typeBodies, typeDef}
-
--- two words on
-two : (at : ℕ) → (at + 1) + 1 ≡ at + 2
-two at = omega arith
 
 method-sized : Sized methodOf 2
 unfolding methodOf
@@ -58,13 +55,13 @@ module _ (bytes : List ℕ) (n at : ℕ) where
   unfolding structType
   struct-next p h l e k m =
       arrived (listOf fieldOf (firstWords bytes n) (at + 2)) e k λ fs g.
-      rw (word-read bytes n at h refl, word-read bytes n (at + 1) l refl, two at, g)
+      rw (word-read bytes n at h refl, word-read bytes n (at + 1) l refl, two-on at, g)
       (sized-list method-sized (firstWords bytes n) p m
       ∙ sym (make (listOf methodOf (firstWords bytes n) p) (λ ms. TypeDef.struct (record { name = getD (words bytes) at 0; parent+ = getD (words bytes) (at + 1) 0; fields = fs; methods = ms }))))
 
   pub struct-stop : {r : Step} → at < n → at + 1 < n → r ≡ Broken → r ≡ stepOf (listOf fieldOf (firstWords bytes n) (at + 2)) → Broken ≡ stepOf (structType (firstWords bytes n) at)
   unfolding structType stepOf
-  struct-stop h l e k = rw (word-read bytes n at h refl, word-read bytes n (at + 1) l refl, two at, stuck (listOf fieldOf (firstWords bytes n) (at + 2)) e k)
+  struct-stop h l e k = rw (word-read bytes n at h refl, word-read bytes n (at + 1) l refl, two-on at, stuck (listOf fieldOf (firstWords bytes n) (at + 2)) e k)
 
   pub struct-short : at < n → n ≤ at + 1 → Broken ≡ stepOf (structType (firstWords bytes n) at)
   unfolding structType stepOf

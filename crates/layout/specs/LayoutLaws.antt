@@ -14,6 +14,7 @@ use Rattle.reader.specs.Reader.{Got, broken, got, andThen, word, listOf, whole,
 use Rattle.reader.specs.Text.{string}
 use Rattle.reader.specs.ReaderLaws.{then-inv}
 use Rattle.reader.specs.Step.{stepOf}
+use Rattle.reader.specs.AlikeLaws.{ends-alike, pos-alike}
 use Rattle.sheet.specs.Module.{Module}
 use Rattle.sheet.specs.Decode.{typeDef, constOf, importOf, globalOf, functionOf, hookOf, exportOf, moduleOf, decode}
 use Rattle.layout.specs.declared.Layout.{Layout}
@@ -21,29 +22,19 @@ use Rattle.layout.specs.Layout.{size, posOf, layoutOf, layout}
 
 -- ── broken alike ──
 
-part-alike : {A B C : Type 0} (p : ℕ) (g : Got A) (f : ℕ → ℕ → Got B) (k : A → ℕ → Got C) → ((a : A) (q : ℕ) → stepOf (f p q) ≡ stepOf (k a q)) →
-    stepOf (andThen (andThen g (λ a q. got p q)) f) ≡ stepOf (andThen g k)
-unfolding stepOf
-part-alike p broken f k h = refl
-part-alike p (got a q) f k h = h a q
-
-ends-alike : {A B : Type 0} (a : A) (b : B) (q : ℕ) → stepOf (got a q) ≡ stepOf (got b q)
-unfolding stepOf
-ends-alike a b q = refl
-
 -- both end at one place, or both are broken
 pub layout-module : (ws : List ℕ) (p : ℕ) → stepOf (layoutOf ws p) ≡ stepOf (moduleOf ws p)
 unfolding layoutOf posOf size moduleOf
 layout-module ws p =
-    part-alike p (listOf string ws p) _ _ λ ss p₁.
-    part-alike p₁ (listOf typeDef ws p₁) _ _ λ ts p₂.
-    part-alike p₂ (listOf constOf ws p₂) _ _ λ cs p₃.
-    part-alike p₃ (listOf importOf ws p₃) _ _ λ is p₄.
-    part-alike p₄ (listOf globalOf ws p₄) _ _ λ gs p₅.
-    part-alike p₅ (listOf functionOf ws p₅) _ _ λ fs p₆.
-    part-alike p₆ (listOf hookOf ws p₆) _ _ λ hs p₇.
-    part-alike p₇ (word ws p₇) _ _ λ st p₈.
-    part-alike p₈ (listOf exportOf ws p₈) _ _ λ es q. ends-alike _ _ q
+    pos-alike p (listOf string ws p) _ _ λ ss p₁.
+    pos-alike p₁ (listOf typeDef ws p₁) _ _ λ ts p₂.
+    pos-alike p₂ (listOf constOf ws p₂) _ _ λ cs p₃.
+    pos-alike p₃ (listOf importOf ws p₃) _ _ λ is p₄.
+    pos-alike p₄ (listOf globalOf ws p₄) _ _ λ gs p₅.
+    pos-alike p₅ (listOf functionOf ws p₅) _ _ λ fs p₆.
+    pos-alike p₆ (listOf hookOf ws p₆) _ _ λ hs p₇.
+    pos-alike p₇ (word ws p₇) _ _ λ st p₈.
+    pos-alike p₈ (listOf exportOf ws p₈) _ _ λ es q. ends-alike _ _ q
 
 whole-alike : {A B : Type 0} (n : ℕ) (g : Got A) (h : Got B) → stepOf g ≡ stepOf h → (whole n g ≡ none) → (whole n h ≡ none)
 unfolding whole stepOf
