@@ -1,9 +1,9 @@
--- `inspect::number_blocks` meets its contract.
+-- `limits::number_blocks` meets its contract.
 use borrow.Author.Needs.{needs}
 use native.Mathlib.Omega.{arith}
 use Prim.Native.Nat.{_≤_, _-_}
-use Rattle.inspect.proofs.number_blocks.Statement.{statement}
-use Rattle.inspect.proofs.number_blocks.Tie as tie
+use Rattle.limits.proofs.number_blocks.Statement.{statement}
+use Rattle.limits.proofs.number_blocks.Tie as tie
 
 abbrev Inv-loop : tie.InvT-loop
 Inv-loop bytes₀ k₀ bytes k = (k ≤ 4097) × (1 ≤ k)

@@ -1,11 +1,11 @@
 use borrow.Author.Needs.{needs}
 use native.Mathlib.Omega.{arith}
 use lib.ListN.{length-take}
-use Rattle.inspect.proofs.report_front.Statement.{statement}
-use Rattle.inspect.proofs.report_front.Tie as tie
-use Rattle.inspect.proofs.report_front.Reads as reads
-use Rattle.inspect.proofs.report_front.Lts as lts
-use Rattle.inspect.proofs.report.Reads as report-reads
+use Rattle.limits.proofs.report_front.Statement.{statement}
+use Rattle.limits.proofs.report_front.Tie as tie
+use Rattle.limits.proofs.report_front.Reads as reads
+use Rattle.limits.proofs.report_front.Lts as lts
+use Rattle.limits.proofs.report.Reads as report-reads
 
 slice-aggregate-report : tie.Need-slice-aggregate-report
 slice-aggregate-report c = omega (arith, length-take (c .before .before .before .args .n) (c .before .before .before .args .bytes .now))
