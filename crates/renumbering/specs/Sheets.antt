@@ -23,9 +23,9 @@ module _ {r first second : List ℕ} where
   abbrev pub as-renumbered : RenumberedSheet r first second → Renumbered r first second
   as-renumbered w = record {
     source = w .source;
-    renumbering = w .renumbering;
+    renumbering = w .renumbers;
     decodes = w .intact;
-    decodesAlso = ap decode (w .written) ∙ renumbered-decodes r first (w .source) (w .bytes) (w .intact) (w .renumbering);
+    decodesAlso = ap decode (w .written) ∙ renumbered-decodes r first (w .source) (w .bytes) (w .intact) (w .renumbers);
   }
 
   pub as-written : all isByte first ≡ true → all isByte second ≡ true → Renumbered r first second → RenumberedSheet r first second
@@ -33,7 +33,7 @@ module _ {r first second : List ℕ} where
     source = w .source;
     bytes = b;
     intact = w .decodes;
-    renumbering = w .renumbering;
+    renumbers = w .renumbering;
     written = decode-is-sheet second (renumber r (w .source)) c (w .decodesAlso);
   }
 
@@ -47,8 +47,8 @@ module _ {r first second : List ℕ} where
   words-same w =
       let m = w .source in
       ap (λ s. lengthWord (words s)) (w .written)
-      ∙ sheet-length (renumber r m) (renumbered-coded r m (w .renumbering) (decode-coded first m (w .bytes) (w .intact)))
-      ∙ ap (λ k. 2 + k) (renumbered-size r m (w .renumbering))
+      ∙ sheet-length (renumber r m) (renumbered-coded r m (w .renumbers) (decode-coded first m (w .bytes) (w .intact)))
+      ∙ ap (λ k. 2 + k) (renumbered-size r m (w .renumbers))
       ∙ sym (decode-length first m (w .bytes) (w .intact))
 
 module _ (r hosts : List ℕ) (first second : Call) (w : RenumberedSheet r (first .sheet) (second .sheet)) where
