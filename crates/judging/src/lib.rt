@@ -1,0 +1,1 @@
+// Going through a list until a member breaks a rule.
