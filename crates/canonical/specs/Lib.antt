@@ -14,3 +14,4 @@ pub mod PassSteps
 pub mod SortSteps
 pub mod ScanSteps
 pub mod Theorems
+pub mod SheetNumbers
