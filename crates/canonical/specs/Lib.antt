@@ -15,3 +15,4 @@ pub mod SortSteps
 pub mod ScanSteps
 pub mod Theorems
 pub mod SheetNumbers
+pub mod SheetRegions

@@ -1,11 +1,11 @@
 -- Laws of regions and of what stays as it was.
-use mathlib.Core.Path.{_≡_, refl, sym, _∙_}
-use mathlib.Core.List.{List}
+use mathlib.Core.Path.{_≡_, refl, sym, ap, _∙_}
+use mathlib.Core.List.{List, _++_}
 use Prim.Native.Nat.{ℕ, _+_, _≤_, _<_}
 use native.Mathlib.Omega.{arith}
 use native.Mathlib.Decide.{decLt}
-use lib.ListN.{length, getD, drop, set, length-take, length-drop, length-set}
-use lib.Seq.{getD-take, getD-drop, ext-getD, getD-set-other, getD-set-same}
+use lib.ListN.{length, getD, drop, set, length-take, length-drop, length-set, length-append, List·getD-append}
+use lib.Seq.{getD-take, getD-drop, ext-getD, getD-set-other, getD-set-same, paste, take-length, getD-append-add}
 use Rattle.region.specs.Region.{part, wordAt, Off, Frame}
 
 pub frame-refl : (P : ℕ → Type 0) (w : List ℕ) → Frame P w w
@@ -46,6 +46,19 @@ pub part-is : (at n : ℕ) (w l : List ℕ) → at + n ≤ length w → length l
 part-is at n w l h e p =
     let lw : length (part at n w) ≡ n = part-length at n w h in
     ext-getD 0 (part at n w) l (lw ∙ sym e) λ i b. part-at at n w i (omega arith) ∙ p i (omega arith)
+
+-- a region of two lists side by side
+pub part-front : (at n : ℕ) (xs ys : List ℕ) → at + n ≤ length xs → part at n (xs ++ ys) ≡ part at n xs
+part-front at n xs ys h =
+    part-is at n (xs ++ ys) (part at n xs) (omega (arith, length-append xs ys)) (part-length at n xs h) λ i k.
+    List·getD-append xs ys 0 (at + i) (omega arith) ∙ sym (part-at at n xs i k)
+
+pub part-after : (xs ys : List ℕ) → part (length xs) (length ys) (xs ++ ys) ≡ ys
+part-after xs ys = part-is (length xs) (length ys) (xs ++ ys) ys (omega (arith, length-append xs ys)) refl λ i k. getD-append-add xs ys i 0
+
+-- a region of what was written from place 0 on
+pub part-paste : (at n : ℕ) (w xs : List ℕ) → at + n ≤ length xs → part at n (paste w 0 xs (length xs)) ≡ part at n xs
+part-paste at n w xs h = ap (λ l. part at n (l ++ drop (0 + length xs) w)) (take-length xs) ∙ part-front at n xs (drop (0 + length xs) w) h
 
 -- a region that is written from its front on: val p at place p
 pub fill-more : (val : ℕ → ℕ) (w₀ w v : List ℕ) (a n i : ℕ) → a + n ≤ length w₀ → i < n → Frame (Off a (a + n)) w₀ w → ((p : ℕ) → p < i → wordAt w a p ≡ val p) → v ≡ set w (a + i) (val i) →
