@@ -7,7 +7,7 @@ use native.Mathlib.Omega.{arith}
 use lib.ListN.{length, getD, length-append}
 use Rattle.lists.specs.Lists.{all}
 use Rattle.reader.specs.Reader.{Got, broken, got, Reader, andThen, word, many, listOf}
-use Rattle.reader.specs.ReaderLaws.{Codes, then-inv, seq, word-codes}
+use Rattle.reader.specs.ReaderLaws.{stands-in, Codes, then-inv, seq, word-codes}
 use Rattle.reader.specs.ReadLaws.{many-fit}
 use Rattle.layout.specs.Layout.{posOf}
 use Rattle.reader.specs.Value.{Whole}
@@ -87,6 +87,15 @@ module _ {A : Type 0} (f : Reader A) (ws : List ℕ) (at : ℕ) (xs : List A) (q
         count = omega (arith, x .count, c, length-append (x .positions) (q ∷ []));
         member = λ i d h. x .member i d (omega (arith, c));
       })
+
+  -- the first edge is no later than the end of the words
+  pub list-begins : listOf f ws at ≡ got xs q → getD (edges (listOf (posOf f) ws at)) 0 0 ≤ length ws
+  unfolding listOf
+  list-begins e =
+      then-inv (word ws at) _ e λ n p₁ e₁ e₂.
+      let x = placed f ws n p₁ xs q e₂ in
+      let g : listOf (posOf f) ws at ≡ got (x .positions) q = ap (λ (y : Got ℕ). andThen y (λ k p. many k (posOf f) ws p)) e₁ ∙ x .reads in
+      rw (edges-got g) (omega (arith, x .begins, stands-in ws (word-codes ws .found at n p₁ e₁ .stands)))
 
   -- a word for the count, and one or more for each member
   pub list-fit : (enc : A → List ℕ) (ok : A → Bool) → Codes ws f enc ok → ((a : A) → 1 ≤ length (enc a)) → listOf f ws at ≡ got xs q → at + 1 + length xs ≤ q

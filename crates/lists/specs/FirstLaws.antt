@@ -1,7 +1,7 @@
 -- The first member that passes a test.
-use mathlib.Core.Path.{_≡_, refl}
+use mathlib.Core.Path.{_≡_, refl, ap, ap₂}
 use mathlib.Core.Bool.{Bool, true, false, cond}
-use mathlib.Core.List.{List, [], _∷_}
+use mathlib.Core.List.{List, [], _∷_, map}
 use Prim.Native.Nat.{ℕ, zero, suc, _≤_, _<_}
 use native.Mathlib.Omega.{arith}
 use lib.ListN.{length, getD}
@@ -52,3 +52,12 @@ module _ {A : Type 0} (p : A → Bool) (d : A) where
       go : (b : Bool) → firstAt p xs ≤ length xs → cond b 0 (suc (firstAt p xs)) ≤ suc (length xs)
       go true l = omega arith
       go false l = omega arith
+
+pub first-map : {A B : Type 0} (p : B → Bool) (f : A → B) (xs : List A) → firstAt p (map f xs) ≡ firstAt (λ x. p (f x)) xs
+first-map p f [] = refl
+first-map p f (x ∷ xs) = ap (λ k. cond (p (f x)) 0 (suc k)) (first-map p f xs)
+
+-- two tests that agree on the members
+pub first-agree : {A : Type 0} (p q : A → Bool) (d : A) (xs : List A) → ((i : ℕ) → i < length xs → p (getD xs i d) ≡ q (getD xs i d)) → firstAt p xs ≡ firstAt q xs
+first-agree p q d [] h = refl
+first-agree p q d (x ∷ xs) h = ap₂ (λ b k. cond b 0 (suc k)) (h 0 (omega arith)) (first-agree p q d xs λ i l. h (suc i) (omega arith))

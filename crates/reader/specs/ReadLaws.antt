@@ -7,7 +7,7 @@ use mathlib.Core.Option.{Option, none, some}
 use native.Mathlib.Omega.{arith}
 use lib.Dec.{eqb}
 use lib.ListN.{length, getD, take, drop, length-append}
-use lib.Seq.{drop-length, drop-append-seam}
+use lib.Seq.{slice, length-slice, getD-take, getD-drop, ext-getD, drop-length, drop-append-seam}
 use borrow.Author.Tests.{eqb-true, eq-eqb}
 use Rattle.lists.specs.Lists.{all, concatMap}
 use Rattle.reader.specs.Reader.{Got, broken, got, Reader, word, many, listOf, whole, content}
@@ -120,6 +120,13 @@ content-is f ws a e = rw (e, eq-eqb (length ws) (length ws) refl)
 -- what fills the words from p on is all that stands there
 pub stands-rest : (ws : List ℕ) (p : ℕ) (xs : List ℕ) → Stands ws p xs (length ws) → drop p ws ≡ xs
 stands-rest ws p xs s = s .words ∙ ap (λ l. xs ++ l) (drop-length ws) ∙ append-nil xs
+
+-- what stands from p to q is that part of the words
+pub stands-slice : (ws : List ℕ) (p q : ℕ) (xs : List ℕ) → Stands ws p xs q → q ≤ length ws → slice p q ws ≡ xs
+stands-slice ws p q xs s h =
+    let l : length (slice p q ws) ≡ length xs = omega (arith, length-slice p q ws h, s .end) in
+    ext-getD 0 (slice p q ws) xs l λ i k.
+    getD-drop p (take q ws) i 0 ∙ getD-take q ws (p + i) 0 (omega (arith, s .end)) ∙ stands-at ws s i (omega arith)
 
 pub stands-all : (a b : ℕ) (xs : List ℕ) → Stands (a ∷ b ∷ xs) 2 xs (length (a ∷ b ∷ xs))
 stands-all a b xs = record { words = sym (ap (λ l. xs ++ l) (drop-length xs) ∙ append-nil xs); end = omega arith }
