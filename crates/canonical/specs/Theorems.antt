@@ -1,4 +1,4 @@
--- What canonical numbers are good for, and examples that compute. No contract cites this file.
+-- What follows of canonical numbers, and examples that compute. No contract cites this file.
 use mathlib.Core.Path.{_≡_, refl, sym, ap, _∙_}
 use mathlib.Core.Bool.{Bool, true, false, cond}
 use mathlib.Core.List.{List, [], _∷_, map}

@@ -1,3 +1,4 @@
+-- `canonical::canonical` meets its contract.
 use borrow.Author.Needs.{needs}
 use Rattle.canonical.specs.ScanSteps.{whole-scan, whole-end}
 use Rattle.canonical.proofs.canonical.Statement.{statement}

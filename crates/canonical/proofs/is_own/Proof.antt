@@ -1,3 +1,4 @@
+-- `canonical::is_own` meets its contract.
 use mathlib.Core.List.{List, []}
 use mathlib.Core.Bool.{Bool, true, false}
 use mathlib.Core.List.{List, [], _∷_}
