@@ -29,5 +29,6 @@ pub record Regions (ws w : List ℕ) (n s a b c : ℕ) : Type 0 where
 
 -- the canonical numbers lie at c, and every word outside a, b and c is as it was
 pub record Numbered (ws w v : List ℕ) (n s a b c : ℕ) (marked : Bool) : Type 0 where
+  pub len : length v ≡ length w
   pub numbers : part c n v ≡ canonical (ownBy marked) (items ws (part s (n + 1) w) n)
   pub same : (k : ℕ) → Off a (a + n) k → Off b (b + n) k → Off c (c + n) k → getD v k 0 ≡ getD w k 0

@@ -137,6 +137,7 @@ module _ (ws w v : List ℕ) (n s a b c r : ℕ) (l : Regions ws w n s a b c) (o
 
   pub whole-end : (u : List ℕ) (marked : Bool) → ScanOut ws v u n s c marked → Numbered ws w u n s a b c marked
   whole-end u marked z = record {
+    len = z .frame .len ∙ o .frame .len;
     numbers = z .numbers ∙ ap (λ (S : List ℕ). canonical (ownBy marked) (items ws S n)) same-edges;
     same = λ k x y q. z .frame .same k q ∙ o .frame .same k (x, y);
   }

@@ -3,14 +3,15 @@ use Prim.Native.Nat.{ℕ, _+_, _≤_, _<_}
 use mathlib.Core.Path.{_≡_, refl, sym, ap, subst, _∙_}
 use mathlib.Core.List.{List, _∷_, _++_}
 use mathlib.Core.Bool.{true}
-use mathlib.Core.Option.{some}
+use mathlib.Core.Option.{Option, none, some}
 use native.Mathlib.Omega.{arith}
 use lib.ListN.{length, length-append}
 use Rattle.lists.specs.Lists.{all}
 use Rattle.blocks.specs.Blocks.{framed}
 use Rattle.blocks.specs.ByteLaws.{isWord}
-use Rattle.blocks.specs.Frame.{firstWords}
-use Rattle.blocks.specs.FirstWords.{firstWords-framed}
+use Rattle.blocks.specs.Frame.{firstWords, frameOf}
+use Rattle.blocks.specs.declared.Frame.the-variants.{Words}
+use Rattle.blocks.specs.FirstWords.{firstWords-framed, frame-few}
 use Rattle.utf8.specs.Utf8.{wellFormed}
 use Rattle.reader.specs.declared.Step.the-variants.{Next}
 use Rattle.reader.specs.Reader.{got, listOf}
@@ -20,6 +21,7 @@ use Rattle.reader.specs.ReaderLaws.{free, word-codes}
 use Rattle.reader.specs.ReadLaws.{content-inv, content-is}
 use Rattle.reader.specs.Step.{stepOf}
 use Rattle.reader.specs.StepLaws.{arrived}
+use Rattle.reader.specs.ValueLaws.{value-got}
 use Rattle.sheet.specs.Module.{TypeDef, Const, plain, Import, Func, Module}
 use Rattle.sheet.specs.Decode.{typeDef, constOf, importOf, globalOf, functionOf, hookOf, exportOf, moduleOf, decode}
 use Rattle.sheet.specs.Encode.{encodeType, encodeConst, encodeImport, encodeGlobal, encodeFunc, encodeHook, encodeExport}
@@ -27,9 +29,12 @@ use Rattle.sheet.specs.Coded.{codedType, codedGlobal, codedFunc, codedHook, cod
 use Rattle.sheet.specs.TypeCodes.{type-codes, const-codes}
 use Rattle.sheet.specs.FuncCodes.{import-codes, global-codes, function-codes}
 use Rattle.sheet.specs.ModuleCodes.{hook-codes, export-codes}
-use Rattle.layout.specs.Layout.{posOf, layoutOf, layout}
+use Rattle.layout.specs.Layout.{posOf, layoutOf, layout, checkedOf}
+use Rattle.layout.specs.Opened.{noModule, moduleIn}
 use Rattle.layout.specs.LayoutLaws.{layout-module, Located, located}
 use Rattle.layout.specs.declared.Layout.{Layout}
+use Rattle.layout.specs.declared.Checked.{Checked}
+use Rattle.layout.specs.declared.Checked.the-variants as Checked
 use Rattle.index.specs.declared.Part.the-variants.{Strings, Types, Consts, Imports, Funcs}
 use Rattle.index.specs.Index.{memberOf, edgesOf, Indexable, index}
 use Rattle.index.specs.IndexLaws.{Indexed, indexed, list-fit}
@@ -41,19 +46,39 @@ const-some (Const.string s) = omega arith
 const-some (Const.array items) = omega arith
 const-some (Const.map entries) = omega arith
 
--- a sheet with a layout holds a module, and each list stands where the layout says
-pub intact : (bytes : List ℕ) (l : Layout) {C : Type 0} → layout bytes ≡ some l →
-    ((m : Module) → decode bytes ≡ some m → Located (firstWords bytes (l .words)) m l → C) → C
+-- a sheet with a layout: the module that its words hold, each list where the layout says, and how long it can be
+pub record Intact (bytes : List ℕ) (l : Layout) : Type 0 where
+  pub holds : decode bytes ≡ some (moduleIn (firstWords bytes (l .words)))
+  pub located : Located (firstWords bytes (l .words)) (moduleIn (firstWords bytes (l .words))) l
+  pub few : l .words ≤ 520192
+
+pub intact : (bytes : List ℕ) (l : Layout) → layout bytes ≡ some l → Intact bytes l
 unfolding layout decode
-intact bytes l e f =
+intact bytes l e =
     content-inv layoutOf (framed bytes) l e λ ws e₁ e₂.
     arrived (moduleOf ws 2) {r = Next (length ws)} refl (sym (ended ws e₂) ∙ layout-module ws 2) λ m g.
     let x = located ws m l g e₂ in
     let w : ws ≡ firstWords bytes (l .words) = sym (firstWords-framed bytes ws e₁) ∙ ap (firstWords bytes) (x .words) in
-    f m (rw e₁ (content-is moduleOf ws m g)) (subst (λ (v : List ℕ). Located v m l) w x)
+    let k : m ≡ moduleIn (firstWords bytes (l .words)) = module-is ws m g ∙ ap moduleIn w in
+    record {
+      holds = rw (e₁, ← k) (content-is moduleOf ws m g);
+      located = subst (λ (v : List ℕ). Located v (moduleIn (firstWords bytes (l .words))) l) w (subst (λ (y : Module). Located ws y l) k x);
+      few = omega (arith, x .words, frame-few bytes {r = Words (length ws)} {n = length ws} refl (unfold frameOf in sym (ap frameOf e₁)));
+    }
   where
     ended : (ws : List ℕ) → layoutOf ws 2 ≡ got l (length ws) → stepOf (layoutOf ws 2) ≡ Next (length ws)
     ended ws e = unfold stepOf in ap stepOf e
+
+    module-is : (ws : List ℕ) (m : Module) → moduleOf ws 2 ≡ got m (length ws) → m ≡ moduleIn ws
+    module-is ws m g = unfold moduleIn in sym (value-got noModule g)
+
+-- as code finds it
+pub checked-intact : (bytes : List ℕ) (l : Layout) {r : Checked} → r ≡ Checked.Intact l → r ≡ checkedOf (layout bytes) → Intact bytes l
+checked-intact bytes l e k = intact bytes l (go (layout bytes) (sym e ∙ k))
+  where
+    go : (o : Option Layout) → Checked.Intact l ≡ checkedOf o → o ≡ some l
+    go none h = unfold checkedOf in let z : _≡_ {A = ℕ} 0 1 = cc in absurd (omega arith)
+    go (some k) h = unfold checkedOf in ap some (cc)
 
 module _ (ws : List ℕ) (m : Module) (l : Layout) (x : Located ws m l) where
   -- ── where the members stand ──

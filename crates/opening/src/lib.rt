@@ -5,15 +5,20 @@ ghost use lib.ListN.{length};
 ghost use Rattle.blocks.specs.Frame.{firstWords};
 ghost use Rattle.layout.specs.LayoutLaws.{Located};
 ghost use Rattle.layout.specs.Opened.{moduleIn};
+ghost use Rattle.index.specs.Index.{indexOf};
+ghost use Rattle.opening.specs.Filing.{Filed};
 ghost use Rattle.opening.specs.Ready.{countsOf, Ready, posAt};
 use blocks::word;
+use canonical::canonical;
 use error::ConstId;
 use error::FuncId;
 use error::StrId;
 use error::TypeId;
 use index::Index;
+use index::index_sheet;
 use layout::Layout;
 use region::at;
+use region::fill;
 
 // How many of each there are.
 pub struct Counts {
@@ -29,6 +34,63 @@ pub struct Opened {
     pub layout: Layout,
     pub index: Index,
     pub counts: Counts,
+}
+
+fn count_parts(sheet: &[u8], l: Layout) -> Counts
+    requires { ⌜ Located (firstWords (now sheet) (l .words)) (moduleIn (firstWords (now sheet) (l .words))) l ⌝ }
+    ensures { λ r. ⌜ r ≡ countsOf (moduleIn (firstWords (now (sheet .entry)) (l .words))) ⌝ }
+{
+    Counts {
+        strings: word(sheet, l.strings),
+        types: word(sheet, l.types),
+        consts: word(sheet, l.consts),
+        imports: word(sheet, l.imports),
+        globals: word(sheet, l.globals),
+        funcs: word(sheet, l.funcs),
+    }
+}
+
+// Canonical numbers of strings and types in their regions, and marks of strings, all zero.
+fn number_parts(sheet: &[u8], l: Layout, x: Index, c: Counts, work: &mut [u32]) -> Opened
+    requires { ⌜ Filed (firstWords (now sheet) (l .words)) (now work) l ⌝ }
+    requires { ⌜ l .words < 4294967296 ⌝ }
+    requires { ⌜ x ≡ indexOf (firstWords (now sheet) (l .words)) l ⌝ }
+    requires { ⌜ c ≡ countsOf (moduleIn (firstWords (now sheet) (l .words))) ⌝ }
+    ensures { λ r. ⌜ (r .layout ≡ l) × Ready (firstWords (now (sheet .entry)) (l .words)) (now (work .exit)) r ⌝ }
+{
+    let n = l.words;
+    let strings = c.strings as usize;
+    let types = c.types as usize;
+    canonical(
+        sheet,
+        n,
+        work,
+        strings,
+        x.strings,
+        4 * n,
+        5 * n,
+        1 * n,
+        false,
+    );
+    canonical(sheet, n, work, types, x.types, 4 * n, 5 * n, 2 * n, true);
+    fill(work, 3 * n, strings, 0);
+    Opened {
+        layout: l,
+        index: x,
+        counts: c,
+    }
+}
+
+// An intact sheet, made ready in lent words.
+pub fn open_sheet(sheet: &[u8], l: Layout, work: &mut [u32]) -> Opened
+    requires { ⌜ Located (firstWords (now sheet) (l .words)) (moduleIn (firstWords (now sheet) (l .words))) l ⌝ }
+    requires { ⌜ l .words < 4294967296 ⌝ }
+    requires { ⌜ 64 + 8 * l .words ≤ length (now work) ⌝ }
+    ensures { λ r. ⌜ (r .layout ≡ l) × Ready (firstWords (now (sheet .entry)) (l .words)) (now (work .exit)) r ⌝ }
+{
+    let x = index_sheet(sheet, l, work);
+    let c = count_parts(sheet, l);
+    number_parts(sheet, l, x, c, work)
 }
 
 // Where a string, a type, a constant, an import, a function stands, by its number.
