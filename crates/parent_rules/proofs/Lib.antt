@@ -1,0 +1,3 @@
+pub mod TypeWords
+pub mod ChainSteps
+pub mod ScanSteps
