@@ -18,6 +18,7 @@ use Rattle.index.specs.declared.Index.{Index}
 use Rattle.index.specs.declared.Part.the-variants.{Strings, Types, Consts, Imports, Funcs}
 use Rattle.index.specs.Index.{edgesOf, indexOf}
 use Rattle.index.specs.SheetIndex.{strings-indexed, types-indexed, consts-indexed, imports-indexed, funcs-indexed}
+use Rattle.canon.specs.Canon.{canonString, canonType}
 use Rattle.region.specs.Region.{Frame}
 use Rattle.opening.specs.declared.Counts.{Counts}
 use Rattle.opening.specs.declared.Opened.{Opened}
@@ -158,20 +159,34 @@ module _ (ws w : List ℕ) (o : Opened) (x : Ready ws w o) where
         funcs-indexed ws (moduleIn ws) (o .layout) (x .opens .located) .count,
       )
 
-  -- the sheet is still ready when only free words were written
-  pub ready-kept : (v : List ℕ) → Kept o w v → Ready ws v o
-  unfolding Kept
-  ready-kept v k = record {
+  -- the sheet is still ready when no word of the four regions was written
+  pub ready-below : (v : List ℕ) → Frame (λ k. k < 4 * o .layout .words) w v → Ready ws v o
+  ready-below v k = record {
     opens = x .opens;
     room = omega (arith, x .room, k .len);
     edges = x .edges;
     inside = x .inside;
-    strings = entries-kept string ws _ w _ (x .strings) (λ k. k < 5 * o .layout .words) v k λ i h. omega (arith, strings-inside);
-    types = entries-kept typeDef ws _ w _ (x .types) (λ k. k < 5 * o .layout .words) v k λ i h. omega (arith, types-inside);
-    consts = entries-kept constOf ws _ w _ (x .consts) (λ k. k < 5 * o .layout .words) v k λ i h. omega (arith, consts-inside);
-    imports = entries-kept importOf ws _ w _ (x .imports) (λ k. k < 5 * o .layout .words) v k λ i h. omega (arith, imports-inside);
-    funcs = entries-kept functionOf ws _ w _ (x .funcs) (λ k. k < 5 * o .layout .words) v k λ i h. omega (arith, funcs-inside);
+    strings = entries-kept string ws _ w _ (x .strings) (λ k. k < 4 * o .layout .words) v k λ i h. omega (arith, strings-inside);
+    types = entries-kept typeDef ws _ w _ (x .types) (λ k. k < 4 * o .layout .words) v k λ i h. omega (arith, types-inside);
+    consts = entries-kept constOf ws _ w _ (x .consts) (λ k. k < 4 * o .layout .words) v k λ i h. omega (arith, consts-inside);
+    imports = entries-kept importOf ws _ w _ (x .imports) (λ k. k < 4 * o .layout .words) v k λ i h. omega (arith, imports-inside);
+    funcs = entries-kept functionOf ws _ w _ (x .funcs) (λ k. k < 4 * o .layout .words) v k λ i h. omega (arith, funcs-inside);
     stringNumbers = λ s h. k .same (o .layout .words + s) (omega (arith, strings-inside)) ∙ x .stringNumbers s h;
     typeNumbers = λ t h. k .same (2 * o .layout .words + t) (omega (arith, types-inside)) ∙ x .typeNumbers t h;
     marks = λ s h. k .same (3 * o .layout .words + s) (omega (arith, strings-inside)) ∙ x .marks s h;
   }
+
+  -- and when only free words were
+  pub ready-kept : (v : List ℕ) → Kept o w v → Ready ws v o
+  unfolding Kept
+  ready-kept v k = ready-below v (record { len = k .len; same = λ i h. k .same i (omega arith) })
+
+  -- ── canonical numbers ──
+
+  pub string-canon : (s : ℕ) → s < length (moduleIn ws .strings) → posAt w (o .layout .words) s ≡ canonString (moduleIn ws .strings) s
+  unfolding posAt
+  string-canon s h = x .stringNumbers s h
+
+  pub type-canon : (t : ℕ) → t < length (moduleIn ws .types) → posAt w (2 * o .layout .words) t ≡ canonType (moduleIn ws .types) t
+  unfolding posAt
+  type-canon t h = x .typeNumbers t h

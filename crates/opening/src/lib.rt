@@ -128,3 +128,18 @@ pub fn func_at(work: &[u32], o: Opened, f: FuncId) -> usize
 {
     at(work, o.index.funcs + f.0 as usize)
 }
+
+// The canonical number of a string, of a type.
+pub fn canon_string(work: &[u32], o: Opened, s: StrId) -> StrId
+    requires { ⌜ o .layout .words + s .0 < length (now work) ⌝ }
+    ensures { λ r. ⌜ r .0 ≡ posAt (now (work .entry)) (o .layout .words) (s .0) ⌝ }
+{
+    StrId(work[o.layout.words + s.0 as usize])
+}
+
+pub fn canon_type(work: &[u32], o: Opened, t: TypeId) -> TypeId
+    requires { ⌜ 2 * o .layout .words + t .0 < length (now work) ⌝ }
+    ensures { λ r. ⌜ r .0 ≡ posAt (now (work .entry)) (2 * o .layout .words) (t .0) ⌝ }
+{
+    TypeId(work[2 * o.layout.words + t.0 as usize])
+}
