@@ -2,46 +2,48 @@
 ghost use mathlib.Core.Path.{_≡_};
 ghost use lib.ListN.{length};
 ghost use Rattle.blocks.specs.Frame.{firstWords};
+ghost use Rattle.error.specs.declared.What.the-variants.{Types};
+ghost use Rattle.error.specs.Answer.{inRange};
 ghost use Rattle.error.specs.Verdict.{verdictOf};
-ghost use Rattle.reader.specs.Reader.{listOf};
+ghost use Rattle.reader.specs.Reader.{word, listOf};
 ghost use Rattle.reader.specs.Value.{Whole, valueOf};
 ghost use Rattle.sheet.specs.Module.{dyn};
 ghost use Rattle.sheet.specs.Decode.{valueType};
 ghost use Rattle.layout.specs.Opened.{moduleIn};
-ghost use Rattle.types.specs.Types.{valueFaults};
+ghost use Rattle.opening.specs.Ready.{Opens};
+ghost use Rattle.types.specs.Types.{valueFaults, stringFaults};
 ghost use Rattle.judging.specs.Judging.{listFaults};
 use blocks::word;
-use error::LoadErrorKind;
+use error::StrId;
+use error::TypeId;
 use error::Verdict;
-use error::What;
+use error::string_in;
+use error::type_in;
+use opening::Opened;
 
 // A reference is to one of the types.
-pub fn check_value(sheet: &[u8], n: usize, at: usize, types: u32) -> Verdict
-    requires { ⌜ Whole (valueType (firstWords (now sheet) n) at) ⌝ }
-    requires { ⌜ types ≡ length (moduleIn (firstWords (now sheet) n) .types) ⌝ }
-    ensures { λ r. ⌜ r ≡ verdictOf (valueFaults (moduleIn (firstWords (now (sheet .entry)) n)) (valueOf dyn (valueType (firstWords (now (sheet .entry)) n) at))) ⌝ }
+pub fn check_value(sheet: &[u8], o: Opened, at: usize) -> Verdict
+    requires { ⌜ Whole (valueType (firstWords (now sheet) (o .layout .words)) at) ⌝ }
+    requires { ⌜ Opens (firstWords (now sheet) (o .layout .words)) o ⌝ }
+    ensures { λ r. ⌜ r ≡ verdictOf (valueFaults (moduleIn (firstWords (now (sheet .entry)) (o .layout .words))) (valueOf dyn (valueType (firstWords (now (sheet .entry)) (o .layout .words)) at))) ⌝ }
 {
     let w = word(sheet, at);
     if w < 16 {
         return Verdict::Holds;
     }
-    let t = w - 16;
-    if t < types {
-        return Verdict::Holds;
-    }
-    Verdict::Broken(LoadErrorKind::OutOfRange(What::Types, t))
+    type_in(TypeId(w - 16), o.counts.types)
 }
 
 // Value types in order, each a word.
-pub fn check_values(sheet: &[u8], n: usize, at: usize, types: u32) -> Verdict
-    requires { ⌜ Whole (listOf valueType (firstWords (now sheet) n) at) ⌝ }
-    requires { ⌜ types ≡ length (moduleIn (firstWords (now sheet) n) .types) ⌝ }
-    ensures { λ r. ⌜ r ≡ verdictOf (listFaults (valueFaults (moduleIn (firstWords (now (sheet .entry)) n))) (listOf valueType (firstWords (now (sheet .entry)) n) at)) ⌝ }
+pub fn check_values(sheet: &[u8], o: Opened, at: usize) -> Verdict
+    requires { ⌜ Whole (listOf valueType (firstWords (now sheet) (o .layout .words)) at) ⌝ }
+    requires { ⌜ Opens (firstWords (now sheet) (o .layout .words)) o ⌝ }
+    ensures { λ r. ⌜ r ≡ verdictOf (listFaults (valueFaults (moduleIn (firstWords (now (sheet .entry)) (o .layout .words)))) (listOf valueType (firstWords (now (sheet .entry)) (o .layout .words)) at)) ⌝ }
 {
     let mut left = word(sheet, at);
     let mut p = at + 1;
     while 0 < left {
-        match check_value(sheet, n, p, types) {
+        match check_value(sheet, o, p) {
             Verdict::Holds => {}
             Verdict::Broken(k) => {
                 return Verdict::Broken(k);
