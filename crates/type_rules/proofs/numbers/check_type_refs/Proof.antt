@@ -1,4 +1,4 @@
--- `type_rules::check_type_refs` meets its contract.
+-- `type_rules::numbers::check_type_refs` meets its contract.
 use borrow.Author.Needs.{needs}
 use native.Mathlib.Omega.{arith}
 use lib.ListN.{length}
@@ -10,8 +10,8 @@ use Rattle.reader.specs.ValueLaws.{list-within}
 use Rattle.layout.specs.Opened.{moduleIn}
 use Rattle.judging.specs.Judging.{Judges, judges-start, judges-end}
 use Rattle.type_rules.proofs.NumberRules.{words-fit, refs-next, refs-stop}
-use Rattle.type_rules.proofs.check_type_refs.Statement.{statement}
-use Rattle.type_rules.proofs.check_type_refs.Tie as tie
+use Rattle.type_rules.proofs.numbers.check_type_refs.Statement.{statement}
+use Rattle.type_rules.proofs.numbers.check_type_refs.Tie as tie
 
 abbrev Inv-loop : tie.InvT-loop
 Inv-loop sheet o at left₀ p₀ left p = Judges word (inRange Types (length (moduleIn (firstWords sheet (o .layout .words)) .types))) (firstWords sheet (o .layout .words)) at left p

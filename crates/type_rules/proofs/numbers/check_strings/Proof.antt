@@ -1,4 +1,4 @@
--- `type_rules::check_strings` meets its contract.
+-- `type_rules::numbers::check_strings` meets its contract.
 use borrow.Author.Needs.{needs}
 use native.Mathlib.Omega.{arith}
 use Rattle.blocks.specs.Frame.{firstWords}
@@ -8,8 +8,8 @@ use Rattle.layout.specs.Opened.{moduleIn}
 use Rattle.types.specs.Types.{stringFaults}
 use Rattle.judging.specs.Judging.{Judges, judges-start, judges-end}
 use Rattle.type_rules.proofs.NumberRules.{words-fit, strings-next, strings-stop}
-use Rattle.type_rules.proofs.check_strings.Statement.{statement}
-use Rattle.type_rules.proofs.check_strings.Tie as tie
+use Rattle.type_rules.proofs.numbers.check_strings.Statement.{statement}
+use Rattle.type_rules.proofs.numbers.check_strings.Tie as tie
 
 abbrev Inv-loop : tie.InvT-loop
 Inv-loop sheet o at left₀ p₀ left p = Judges word (stringFaults (moduleIn (firstWords sheet (o .layout .words)))) (firstWords sheet (o .layout .words)) at left p
