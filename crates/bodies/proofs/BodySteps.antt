@@ -64,7 +64,7 @@ module _ (ws : List ℕ) (at p₁ p₂ p₃ p₄ : ℕ) {r₁ r₂ r₃ r₄ : S
 
   pub backs : r₁ ≡ stepOf (listOf (many 1 word) ws at) → p₁ ≡ endOf r₁ → r₂ ≡ stepOf (listOf (many 1 word) ws p₁) → p₂ ≡ endOf r₂ →
       r₃ ≡ stepOf (listOf (many 4 word) ws p₂) → p₃ ≡ endOf r₃ → r₄ ≡ stepOf (listOf switchOf ws p₃) → p₄ ≡ endOf r₄ →
-      Backs ws at (record { type_refs = p₁; handlers = p₂; tables = p₃; code = p₄ })
+      Backs ws at (record { «type_refs» = p₁; handlers = p₂; tables = p₃; code = p₄ })
   backs a b c d e f g h = record {
     typeRefs = b ∙ ap endOf (sized-list sized-word ws at a);
     handlers = d ∙ ap endOf (sized-list sized-word ws p₁ c);
@@ -93,10 +93,25 @@ module _ {A : Type 0} (f : Reader A) (ws : List ℕ) {p p₁ q r : ℕ} {a : A} 
   stands : r ≡ q → f ws p₁ ≡ got a r
   stands h = ap (f ws) e ∙ g ∙ ap (got a) (sym h)
 
+-- a body of two halves, the signature before them
+abbrev pub bodyOf : ℕ → ℕ → Front → Back → Body
+bodyOf s at x y = record {
+  sig = s;
+  regs = at + 1;
+  params = x .params;
+  shapes = x .shapes;
+  captures = x .captures;
+  names = x .names;
+  «type_refs» = y .«type_refs»;
+  handlers = y .handlers;
+  tables = y .tables;
+  code = y .code;
+}
+
 module _ (b : List ℕ) (n at : ℕ) {x : Front} {y : Back} {s : ℕ} where
   pub placed-body : Whole (functionOf (firstWords b n) at) → Fronts (firstWords b n) at x → Backs (firstWords b n) (x .names) y → s ≡ getD (words b) at 0 →
       Placed (firstWords b n) (valueOf noFunc (functionOf (firstWords b n) at))
-      (record { sig = s; regs = at + 1; params = x .params; shapes = x .shapes; captures = x .captures; names = x .names; type_refs = y .type_refs; handlers = y .handlers; tables = y .tables; code = y .code })
+      (bodyOf s at x y)
   unfolding functionOf
   placed-body h u v w =
       whole-inv (functionOf (firstWords b n) at) h λ f q e.
@@ -119,11 +134,11 @@ module _ (b : List ℕ) (n at : ℕ) {x : Front} {y : Back} {s : ℕ} where
       let k₂ : x .shapes ≡ p₂ = lands paramList ws k₁ e₂ (u .shapes) in
       let k₃ : x .captures ≡ p₃ = lands (listOf (listOf argOf)) ws k₂ e₃ (u .captures) in
       let k₄ : x .names ≡ p₄ = lands (listOf valueType) ws k₃ e₄ (u .names) in
-      let k₅ : y .type_refs ≡ p₅ = lands (listOf word) ws k₄ e₅ (v .typeRefs) in
+      let k₅ : y .«type_refs» ≡ p₅ = lands (listOf word) ws k₄ e₅ (v .typeRefs) in
       let k₆ : y .handlers ≡ p₆ = lands (listOf word) ws k₅ e₆ (v .handlers) in
       let k₇ : y .tables ≡ p₇ = lands (listOf handlerOf) ws k₆ e₇ (v .tables) in
       let k₈ : y .code ≡ p₈ = lands (listOf switchOf) ws k₇ e₈ (v .code) in
-      subst (λ (g : Func). Placed ws g _) (z ∙ sym (value-got noFunc e))
+      subst (λ (g : Func). Placed ws g (bodyOf s at x y)) (z ∙ sym (value-got noFunc e))
       (record {
         sig = kₛ;
         regs = stands (listOf valueType) ws k₀ e₁ k₁;

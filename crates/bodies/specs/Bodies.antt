@@ -19,8 +19,8 @@ pub record Placed (ws : List ℕ) (f : Func) (r : Body) : Type 0 where
   pub params : paramList ws (r .params) ≡ got (f .params) (r .shapes)
   pub shapes : listOf (listOf argOf) ws (r .shapes) ≡ got (f .shapes) (r .captures)
   pub captures : listOf valueType ws (r .captures) ≡ got (f .captures) (r .names)
-  pub names : listOf word ws (r .names) ≡ got (f .names) (r .type_refs)
-  pub typeRefs : listOf word ws (r .type_refs) ≡ got (f .typeRefs) (r .handlers)
+  pub names : listOf word ws (r .names) ≡ got (f .names) (r .«type_refs»)
+  pub typeRefs : listOf word ws (r .«type_refs») ≡ got (f .typeRefs) (r .handlers)
   pub handlers : listOf handlerOf ws (r .handlers) ≡ got (f .handlers) (r .tables)
   pub tables : listOf switchOf ws (r .tables) ≡ got (f .tables) (r .code)
   pub end : ℕ
@@ -41,7 +41,7 @@ pub record Fronts (ws : List ℕ) (at : ℕ) (r : Front) : Type 0 where
   pub names : r .names ≡ endOf (stepOf (listOf valueType ws (r .captures)))
 
 pub record Backs (ws : List ℕ) (names : ℕ) (r : Back) : Type 0 where
-  pub typeRefs : r .type_refs ≡ endOf (stepOf (listOf word ws names))
-  pub handlers : r .handlers ≡ endOf (stepOf (listOf word ws (r .type_refs)))
+  pub typeRefs : r .«type_refs» ≡ endOf (stepOf (listOf word ws names))
+  pub handlers : r .handlers ≡ endOf (stepOf (listOf word ws (r .«type_refs»)))
   pub tables : r .tables ≡ endOf (stepOf (listOf handlerOf ws (r .handlers)))
   pub code : r .code ≡ endOf (stepOf (listOf switchOf ws (r .tables)))
