@@ -1,13 +1,17 @@
 -- Where the ten parts of a function stand.
-use Prim.Native.Nat.{ℕ, _+_}
+use Prim.Native.Nat.{ℕ, _+_, _*_, _≤_, _<_}
 use mathlib.Core.Path.{_≡_}
 use mathlib.Core.List.{List}
+use lib.ListN.{length}
 use Rattle.reader.specs.declared.Step.{Step}
 use Rattle.reader.specs.declared.Step.the-variants.{Next, Broken}
 use Rattle.reader.specs.Reader.{got, word, listOf}
 use Rattle.reader.specs.Step.{stepOf}
 use Rattle.sheet.specs.Module.{Func}
-use Rattle.sheet.specs.Decode.{valueType, paramList, argOf, handlerOf, switchOf, instOf}
+use Rattle.sheet.specs.Decode.{valueType, paramList, argOf, handlerOf, switchOf, instOf, functionOf}
+use Rattle.layout.specs.Opened.{moduleIn}
+use Rattle.opening.specs.declared.Opened.{Opened}
+use Rattle.opening.specs.Ready.{Opens, Entries}
 use Rattle.bodies.specs.declared.Body.{Body}
 use Rattle.bodies.specs.declared.Front.{Front}
 use Rattle.bodies.specs.declared.Back.{Back}
@@ -45,3 +49,12 @@ pub record Backs (ws : List ℕ) (names : ℕ) (r : Back) : Type 0 where
   pub handlers : r .handlers ≡ endOf (stepOf (listOf word ws (r .«type_refs»)))
   pub tables : r .tables ≡ endOf (stepOf (listOf handlerOf ws (r .handlers)))
   pub code : r .code ≡ endOf (stepOf (listOf switchOf ws (r .tables)))
+
+-- ── functions by number ──
+
+-- there is room for the captures' counts, and the functions' edges stand below them
+pub record Countable (ws w : List ℕ) (o : Opened) : Type 0 where
+  pub opens : Opens ws o
+  pub room : 64 + 8 * o .layout .words ≤ length w
+  pub funcs : Entries functionOf ws (moduleIn ws .funcs) w (o .index .funcs)
+  pub edges : o .index .funcs + length (moduleIn ws .funcs) < 4 * o .layout .words

@@ -1,15 +1,22 @@
 // Where the ten parts of a function stand.
 ghost use mathlib.Core.Path.{_≡_};
+ghost use Prim.Native.Nat.{ℕ, _+_, _*_, _<_};
+ghost use lib.ListN.{length};
 ghost use Rattle.blocks.specs.Frame.{firstWords};
 ghost use Rattle.reader.specs.Value.{Whole, valueOf};
 ghost use Rattle.sheet.specs.Decode.{functionOf};
-ghost use Rattle.code.specs.Callee.{noFunc};
-ghost use Rattle.bodies.specs.Bodies.{Placed, endOf, Fronts, Backs};
+ghost use Rattle.layout.specs.Opened.{moduleIn};
+ghost use Rattle.region.specs.Region.{Off, Frame, wordAt};
+ghost use Rattle.code.specs.Callee.{noFunc, funcAt};
+ghost use Rattle.bodies.specs.Bodies.{Placed, endOf, Fronts, Backs, Countable};
 use blocks::word;
+use error::FuncId;
 use layout::funcs::skip_shapes;
 use layout::funcs::skip_switches;
 use layout::imports::skip_params;
 use layout::types::skip_values;
+use opening::Opened;
+use opening::func_at;
 use reader::Step;
 use reader::skip_records;
 
@@ -101,5 +108,30 @@ pub fn locate_body(sheet: &[u8], n: usize, at: usize) -> Body
         handlers: back.handlers,
         tables: back.tables,
         code: back.code,
+    }
+}
+
+// How many captures a function has: no part after them is passed.
+pub fn captures_count(sheet: &[u8], n: usize, at: usize) -> u32
+    requires { ⌜ Whole (functionOf (firstWords (now sheet) n) at) ⌝ }
+    ensures { λ r. ⌜ r ≡ length (valueOf noFunc (functionOf (firstWords (now (sheet .entry)) n) at) .captures) ⌝ }
+{
+    let front = locate_front(sheet, n, at);
+    word(sheet, front.captures)
+}
+
+// Writes how many captures each function has, from word 4 * words of work on, and nothing else.
+pub fn index_captures(sheet: &[u8], work: &mut [u32], o: Opened)
+    requires { ⌜ Countable (firstWords (now sheet) (o .layout .words)) (now work) o ⌝ }
+    ensures { λ r. ⌜ Frame (Off (4 * o .layout .words) (4 * o .layout .words + o .counts .funcs)) (now (work .entry)) (now (work .exit)) ⌝ }
+    ensures { λ r. ⌜ ((f : ℕ) → f < o .counts .funcs → wordAt (now (work .exit)) (4 * o .layout .words) f ≡ length (funcAt (moduleIn (firstWords (now (sheet .entry)) (o .layout .words))) f .captures)) ⌝ }
+{
+    let n = o.layout.words;
+    let base = 4 * n;
+    let mut f = 0;
+    while f < o.counts.funcs {
+        let at = func_at(work, o, FuncId(f));
+        work[base + f as usize] = captures_count(sheet, n, at);
+        f += 1;
     }
 }
