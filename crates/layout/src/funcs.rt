@@ -12,7 +12,7 @@ use reader::Step;
 use reader::skip_records;
 
 // Call shapes: each a list of kinds and names.
-fn skip_shapes(sheet: &[u8], n: usize, at: usize) -> Step
+pub fn skip_shapes(sheet: &[u8], n: usize, at: usize) -> Step
     ensures { λ r. ⌜ r ≡ stepOf (listOf (listOf (many 2 word)) (firstWords (now (sheet .entry)) n) at) ⌝ }
 {
     if at < n {
@@ -50,7 +50,7 @@ fn skip_switch(sheet: &[u8], n: usize, at: usize) -> Step
     }
 }
 
-fn skip_switches(sheet: &[u8], n: usize, at: usize) -> Step
+pub fn skip_switches(sheet: &[u8], n: usize, at: usize) -> Step
     ensures { λ r. ⌜ r ≡ stepOf (listOf switchOf (firstWords (now (sheet .entry)) n) at) ⌝ }
 {
     if at < n {
