@@ -1,0 +1,2 @@
+pub mod SigSteps
+pub mod DynSteps
