@@ -15,8 +15,7 @@ use Rattle.sheet.specs.Decode.{typeDef, constOf, importOf, functionOf}
 use Rattle.layout.specs.LayoutLaws.{Located}
 use Rattle.layout.specs.Opened.{moduleIn}
 use Rattle.index.specs.declared.Index.{Index}
-use Rattle.index.specs.declared.Part.the-variants.{Strings, Types, Consts, Imports, Funcs}
-use Rattle.index.specs.Index.{edgesOf, indexOf}
+use Rattle.index.specs.Index.{indexOf}
 use Rattle.index.specs.SheetIndex.{strings-indexed, types-indexed, consts-indexed, imports-indexed, funcs-indexed}
 use Rattle.canon.specs.Canon.{canonString, canonType}
 use Rattle.region.specs.Region.{Frame}
