@@ -57,9 +57,6 @@ module _ (ws w₀ : List ℕ) (o : Opened) where
     entries = entries-kept functionOf ws (moduleIn ws .funcs) w₀ (o .index .funcs) (x .funcs) (Off (4 * o .layout .words) (4 * o .layout .words + o .counts .funcs)) w (s .frame)
         λ i h a b. let z : i ≤ length (moduleIn ws .funcs) = h in omega (arith, x .edges)
 
-    pub counted-length : length w ≡ length w₀
-    counted-length = s .frame .len
-
     module _ (h : f < o .counts .funcs) where
       below : f < length (moduleIn ws .funcs)
       below = omega (arith, count-funcs ws o (x .opens))

@@ -10,6 +10,18 @@ ghost use Rattle.code.specs.Code.{unreachable};
 ghost use Rattle.opcodes.specs.Slots.{placeOf, kindIn, ruleOf, inst};
 use blocks::word;
 use code::FieldKind;
+use code::FieldKind::Const;
+use code::FieldKind::Func;
+use code::FieldKind::Global;
+use code::FieldKind::Import;
+use code::FieldKind::Name;
+use code::FieldKind::Reg;
+use code::FieldKind::Shape;
+use code::FieldKind::Table;
+use code::FieldKind::Target;
+use code::FieldKind::TypeRef;
+use code::FieldKind::Unused;
+use code::FieldKind::Upval;
 use error::TypeKind;
 
 // An instruction's two words.
@@ -48,79 +60,80 @@ pub enum Rule {
 
 // A, B, W, C of each code.
 const FIELDS: [[FieldKind; 4]; 35] = [
-    // 0 Unreachable
-    [FieldKind::Unused, FieldKind::Unused, FieldKind::Unused, FieldKind::Unused],
-    // 1 RetVoid
-    [FieldKind::Unused, FieldKind::Unused, FieldKind::Unused, FieldKind::Unused],
-    // 2 Ret
-    [FieldKind::Reg, FieldKind::Unused, FieldKind::Unused, FieldKind::Unused],
-    // 3 Throw
-    [FieldKind::Reg, FieldKind::Unused, FieldKind::Unused, FieldKind::Unused],
-    // 4 Jmp
-    [FieldKind::Unused, FieldKind::Unused, FieldKind::Target, FieldKind::Unused],
-    // 5 branch
-    [FieldKind::Reg, FieldKind::Unused, FieldKind::Target, FieldKind::Unused],
-    // 6 Switch
-    [FieldKind::Reg, FieldKind::Unused, FieldKind::Table, FieldKind::Unused],
-    // 7 TailCall
-    [FieldKind::Reg, FieldKind::Unused, FieldKind::Func, FieldKind::Unused],
-    // 8 TailCallIndirect
-    [FieldKind::Reg, FieldKind::Reg, FieldKind::Unused, FieldKind::Unused],
-    // 9 IAdd
-    [FieldKind::Reg, FieldKind::Reg, FieldKind::Unused, FieldKind::Reg],
-    // 10 DAdd
-    [FieldKind::Reg, FieldKind::Reg, FieldKind::Unused, FieldKind::Reg],
-    // 11 constant
-    [FieldKind::Reg, FieldKind::Unused, FieldKind::Const, FieldKind::Unused],
-    // 12 global
-    [FieldKind::Reg, FieldKind::Unused, FieldKind::Global, FieldKind::Unused],
-    // 13 name
-    [FieldKind::Reg, FieldKind::Reg, FieldKind::Unused, FieldKind::Name],
-    // 14 capture
-    [FieldKind::Reg, FieldKind::Upval, FieldKind::Unused, FieldKind::Unused],
-    // 15 Call
-    [FieldKind::Reg, FieldKind::Unused, FieldKind::Func, FieldKind::Unused],
-    // 16 CallIndirect
-    [FieldKind::Reg, FieldKind::Reg, FieldKind::Unused, FieldKind::Unused],
-    // 17 DCall
-    [FieldKind::Reg, FieldKind::Reg, FieldKind::Unused, FieldKind::Unused],
-    // 18 CoroNewIndirect
-    [FieldKind::Reg, FieldKind::Reg, FieldKind::Unused, FieldKind::Unused],
-    // 19 Spawn
-    [FieldKind::Reg, FieldKind::Reg, FieldKind::Unused, FieldKind::Unused],
-    // 20 CoroNew
-    [FieldKind::Reg, FieldKind::Unused, FieldKind::Func, FieldKind::Unused],
-    // 21 CallImport
-    [FieldKind::Reg, FieldKind::Unused, FieldKind::Import, FieldKind::Unused],
-    // 22 MakeClosure
-    [FieldKind::Reg, FieldKind::Unused, FieldKind::Func, FieldKind::Unused],
-    // 23 DCallShape
-    [FieldKind::Reg, FieldKind::Shape, FieldKind::Unused, FieldKind::Unused],
-    // 24 NewStruct
-    [FieldKind::Reg, FieldKind::TypeRef, FieldKind::Unused, FieldKind::Unused],
-    // 25 NewArray
-    [FieldKind::Reg, FieldKind::TypeRef, FieldKind::Unused, FieldKind::Unused],
-    // 26 NewMap
-    [FieldKind::Reg, FieldKind::TypeRef, FieldKind::Unused, FieldKind::Unused],
-    // 27 NewCell
-    [FieldKind::Reg, FieldKind::TypeRef, FieldKind::Unused, FieldKind::Unused],
-    // 28 StrConcatN
-    [FieldKind::Reg, FieldKind::Reg, FieldKind::Unused, FieldKind::Unused],
-    // 29 StrSlice
-    [FieldKind::Reg, FieldKind::Reg, FieldKind::Unused, FieldKind::Reg],
-    // 30 FromDyn
-    [FieldKind::Reg, FieldKind::Reg, FieldKind::Unused, FieldKind::Unused],
-    // 31 Raise
-    [FieldKind::Reg, FieldKind::Unused, FieldKind::Unused, FieldKind::Unused],
-    // 32 FloatToBits
-    [FieldKind::Reg, FieldKind::Reg, FieldKind::Unused, FieldKind::Unused],
-    // 33 BitsToFloat
-    [FieldKind::Reg, FieldKind::Reg, FieldKind::Unused, FieldKind::Unused],
-    // 34 move
-    [FieldKind::Reg, FieldKind::Reg, FieldKind::Unused, FieldKind::Unused],
+    [Unused, Unused, Unused, Unused], // 0 Unreachable
+    [Unused, Unused, Unused, Unused], // 1 RetVoid
+    [Reg, Unused, Unused, Unused], // 2 Ret
+    [Reg, Unused, Unused, Unused], // 3 Throw
+    [Unused, Unused, Target, Unused], // 4 Jmp
+    [Reg, Unused, Target, Unused], // 5 branch
+    [Reg, Unused, Table, Unused], // 6 Switch
+    [Reg, Unused, Func, Unused], // 7 TailCall
+    [Reg, Reg, Unused, Unused], // 8 TailCallIndirect
+    [Reg, Reg, Unused, Reg], // 9 IAdd
+    [Reg, Reg, Unused, Reg], // 10 DAdd
+    [Reg, Unused, Const, Unused], // 11 constant
+    [Reg, Unused, Global, Unused], // 12 global
+    [Reg, Reg, Unused, Name], // 13 name
+    [Reg, Upval, Unused, Unused], // 14 capture
+    [Reg, Unused, Func, Unused], // 15 Call
+    [Reg, Reg, Unused, Unused], // 16 CallIndirect
+    [Reg, Reg, Unused, Unused], // 17 DCall
+    [Reg, Reg, Unused, Unused], // 18 CoroNewIndirect
+    [Reg, Reg, Unused, Unused], // 19 Spawn
+    [Reg, Unused, Func, Unused], // 20 CoroNew
+    [Reg, Unused, Import, Unused], // 21 CallImport
+    [Reg, Unused, Func, Unused], // 22 MakeClosure
+    [Reg, Shape, Unused, Unused], // 23 DCallShape
+    [Reg, TypeRef, Unused, Unused], // 24 NewStruct
+    [Reg, TypeRef, Unused, Unused], // 25 NewArray
+    [Reg, TypeRef, Unused, Unused], // 26 NewMap
+    [Reg, TypeRef, Unused, Unused], // 27 NewCell
+    [Reg, Reg, Unused, Unused], // 28 StrConcatN
+    [Reg, Reg, Unused, Reg], // 29 StrSlice
+    [Reg, Reg, Unused, Unused], // 30 FromDyn
+    [Reg, Unused, Unused, Unused], // 31 Raise
+    [Reg, Reg, Unused, Unused], // 32 FloatToBits
+    [Reg, Reg, Unused, Unused], // 33 BitsToFloat
+    [Reg, Reg, Unused, Unused], // 34 move
 ];
 
-const TERMINATES: [bool; 35] = [true, true, true, true, true, false, true, true, true, false, false, false, false, false, false, false, false, false, false, false, false, false, false, false, false, false, false, false, false, false, false, false, false, false, false];
+const TERMINATES: [bool; 35] = [
+    true, // 0 Unreachable
+    true, // 1 RetVoid
+    true, // 2 Ret
+    true, // 3 Throw
+    true, // 4 Jmp
+    false, // 5 branch
+    true, // 6 Switch
+    true, // 7 TailCall
+    true, // 8 TailCallIndirect
+    false, // 9 IAdd
+    false, // 10 DAdd
+    false, // 11 constant
+    false, // 12 global
+    false, // 13 name
+    false, // 14 capture
+    false, // 15 Call
+    false, // 16 CallIndirect
+    false, // 17 DCall
+    false, // 18 CoroNewIndirect
+    false, // 19 Spawn
+    false, // 20 CoroNew
+    false, // 21 CallImport
+    false, // 22 MakeClosure
+    false, // 23 DCallShape
+    false, // 24 NewStruct
+    false, // 25 NewArray
+    false, // 26 NewMap
+    false, // 27 NewCell
+    false, // 28 StrConcatN
+    false, // 29 StrSlice
+    false, // 30 FromDyn
+    false, // 31 Raise
+    false, // 32 FloatToBits
+    false, // 33 BitsToFloat
+    false, // 34 move
+];
 
 const RULES: [Rule; 35] = [
     Rule::Free, // 0 Unreachable

@@ -3,7 +3,7 @@ use Prim.Native.Nat.{_-_}
 use borrow.Author.Needs.{needs}
 use native.Mathlib.Omega.{arith}
 use Rattle.blocks.specs.Frame.{firstWords}
-use Rattle.bodies.proofs.CaptureSteps.{Counted, counted-start, counted-length, counted-room, counted-place, counted-whole, counted-next, counted-end}
+use Rattle.bodies.proofs.CaptureSteps.{Counted, counted-start, counted-room, counted-place, counted-whole, counted-next, counted-end}
 use Rattle.bodies.proofs.index_captures.Statement.{statement}
 use Rattle.bodies.proofs.index_captures.Tie as tie
 
