@@ -1,14 +1,13 @@
 -- Types by their kind words, and types in order.
-use Prim.Native.Nat.{ℕ, zero, suc, _+_, _-_, _*_, _≤_, _<_}
+use Prim.Native.Nat.{ℕ, _+_, _≤_, _<_}
 use mathlib.Core.Path.{_≡_, refl, sym, ap, ap₂, subst, _∙_}
-use mathlib.Core.List.{List, [], _∷_, _++_, append-assoc}
-use mathlib.Core.Bool.{Bool, true, false}
+use mathlib.Core.List.{List, [], _++_, append-assoc}
 use native.Mathlib.Omega.{arith}
 use native.Mathlib.Decide.{decLt}
 use lib.Dec.{leb}
 use lib.ListN.{length, getD, List·getD-eq-default}
 use borrow.Author.Tests.{le-leb, lt-leb}
-use Rattle.lists.specs.Lists.{concatMap, concatMapFrom}
+use Rattle.lists.specs.Lists.{concatMap}
 use Rattle.lists.specs.ListLaws.{concatMap-from}
 use Rattle.blocks.specs.Blocks.{words}
 use Rattle.blocks.specs.Frame.{firstWords}
@@ -20,21 +19,21 @@ use Rattle.error.specs.declared.Judged.{Judged}
 use Rattle.error.specs.Answer.{unless, inModule}
 use Rattle.error.specs.Verdict.{verdictOf, judgedOf, placed}
 use Rattle.error.specs.VerdictLaws.{verdict-then, verdict-stop, placed-faults}
-use Rattle.reader.specs.Reader.{Got, broken, got, Reader, andThen, fail, word, listOf}
+use Rattle.reader.specs.Reader.{broken, got, Reader, andThen, fail, listOf}
 use Rattle.reader.specs.ReaderLaws.{then-inv}
 use Rattle.reader.specs.StepLaws.{word-read, word-none, beyond}
 use Rattle.reader.specs.Value.{Whole, valueOf}
 use Rattle.reader.specs.ValueLaws.{whole-inv, got-whole, not-whole, value-got, list-within}
-use Rattle.sheet.specs.Module.{ValueType, dyn, Sig, TypeDef, func, cell, iter, coroutine, Module}
+use Rattle.sheet.specs.Module.{ValueType, dyn, TypeDef, func, cell, iter, coroutine, Module}
 use Rattle.sheet.specs.Decode.{valueType, funcType, structType, ofOne, ofTwo, typeBodies, typeDef}
 use Rattle.layout.specs.Opened.{moduleIn}
 use Rattle.opening.specs.declared.Opened.{Opened}
-use Rattle.opening.specs.Ready.{Opens, Ready, posAt}
+use Rattle.opening.specs.Ready.{Ready, posAt}
 use Rattle.opening.specs.ReadyLaws.{count-types, types-in, entry-room, entry-whole, entry-value}
 use Rattle.types.specs.Types.{valueFaults, sigFaults, typeFaults, typesFaults}
 use Rattle.judging.specs.Judging.{listFaults}
 use Rattle.judging.specs.Clearing.{Clears, clears-start, clears-holds, clears-pass, clears-stop}
-use Rattle.type_rules.proofs.Sizes.{Takes, value-takes, list-takes}
+use Rattle.type_rules.proofs.Sizes.{value-takes, list-takes}
 use Rattle.type_rules.proofs.ValueRules.{value-in}
 
 -- ── a func type: parameters, results ──

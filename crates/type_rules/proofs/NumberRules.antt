@@ -1,6 +1,6 @@
 -- Numbers of strings and of types, each a word.
 use Prim.Native.Nat.{ℕ, _+_, _-_, _≤_, _<_}
-use mathlib.Core.Path.{_≡_, refl, sym, ap, _∙_}
+use mathlib.Core.Path.{_≡_, sym, ap, _∙_}
 use mathlib.Core.List.{List}
 use native.Mathlib.Omega.{arith}
 use lib.ListN.{length, getD}
@@ -13,9 +13,9 @@ use Rattle.error.specs.declared.Verdict.{Verdict}
 use Rattle.error.specs.declared.Verdict.the-variants.{Holds, Broken}
 use Rattle.error.specs.Answer.{inRange}
 use Rattle.error.specs.Verdict.{verdictOf}
-use Rattle.reader.specs.Reader.{got, word, listOf}
+use Rattle.reader.specs.Reader.{word, listOf}
 use Rattle.reader.specs.StepLaws.{word-read}
-use Rattle.reader.specs.Value.{Whole, valueOf}
+use Rattle.reader.specs.Value.{valueOf}
 use Rattle.reader.specs.ValueLaws.{value-got}
 use Rattle.layout.specs.Opened.{moduleIn}
 use Rattle.opening.specs.declared.Opened.{Opened}
@@ -23,7 +23,7 @@ use Rattle.opening.specs.Ready.{Opens}
 use Rattle.opening.specs.ReadyLaws.{count-strings, count-types, count-funcs}
 use Rattle.types.specs.Types.{stringFaults, functionFaults}
 use Rattle.judging.specs.Judging.{Judges, listFaults, judges-next, judges-stop}
-use Rattle.type_rules.proofs.Sizes.{Takes, word-takes, many-inside}
+use Rattle.type_rules.proofs.Sizes.{word-takes, many-inside}
 
 -- ── a number, judged by the count that was opened ──
 

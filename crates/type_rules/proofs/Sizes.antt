@@ -7,8 +7,7 @@ use native.Mathlib.Omega.{arith}
 use lib.ListN.{length, getD, take}
 use Rattle.blocks.specs.Blocks.{words}
 use Rattle.blocks.specs.Frame.{firstWords}
-use Rattle.blocks.specs.FirstWords.{length-firstWords}
-use Rattle.reader.specs.Reader.{Got, got, Reader, andThen, word, many, listOf}
+use Rattle.reader.specs.Reader.{got, Reader, andThen, word, many, listOf}
 use Rattle.reader.specs.ReaderLaws.{Codes, free, then-inv, oneWord, word-codes}
 use Rattle.reader.specs.ReadLaws.{read-inside}
 use Rattle.reader.specs.StepLaws.{word-read}

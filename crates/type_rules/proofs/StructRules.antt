@@ -1,6 +1,6 @@
 -- Fields and methods, two words each, and structs.
 use Prim.Native.Nat.{ℕ, _+_, _-_, _*_, _≤_, _<_}
-use mathlib.Core.Path.{_≡_, refl, sym, ap, ap₂, subst, _∙_}
+use mathlib.Core.Path.{_≡_, refl, sym, ap, ap₂, _∙_}
 use mathlib.Core.List.{List, [], _∷_, _++_, append-assoc}
 use native.Mathlib.Omega.{arith}
 use lib.ListN.{length, getD, take}
@@ -16,12 +16,12 @@ use Rattle.error.specs.declared.Verdict.the-variants.{Holds, Broken}
 use Rattle.error.specs.Answer.{inRange}
 use Rattle.error.specs.Verdict.{verdictOf}
 use Rattle.error.specs.VerdictLaws.{verdict-then, verdict-stop}
-use Rattle.reader.specs.Reader.{Got, got, Reader, word, many, listOf}
+use Rattle.reader.specs.Reader.{got, word, many, listOf}
 use Rattle.reader.specs.ReaderLaws.{then-inv}
 use Rattle.reader.specs.StepLaws.{word-read}
 use Rattle.reader.specs.Value.{Whole, valueOf}
 use Rattle.reader.specs.ValueLaws.{whole-inv, got-whole, value-got, list-whole, list-value, list-within, many-first}
-use Rattle.sheet.specs.Module.{ValueType, dyn, Field, Method, Struct, TypeDef, struct, coroutine, Module}
+use Rattle.sheet.specs.Module.{ValueType, dyn, Field, Method, struct, coroutine, Module}
 use Rattle.sheet.specs.Decode.{valueType, fieldOf, methodOf, structType}
 use Rattle.layout.specs.Opened.{moduleIn}
 use Rattle.opening.specs.declared.Opened.{Opened}
@@ -29,7 +29,7 @@ use Rattle.opening.specs.Ready.{Opens}
 use Rattle.types.specs.Types.{namedSlots, valueFaults, stringFaults, functionFaults, methodFaults, structFaults, typeFaults}
 use Rattle.judging.specs.Judging.{Judges, listFaults, judges-next, judges-stop, judges-whole}
 use Rattle.type_rules.specs.Parts.{noField, noMethod, fieldTypeFaults, fieldNameFaults, namesFaults, fieldsFaults}
-use Rattle.type_rules.proofs.Sizes.{Takes, word-takes, field-takes, method-takes, many-inside, list-takes, many-front}
+use Rattle.type_rules.proofs.Sizes.{word-takes, field-takes, method-takes, many-inside, list-takes, many-front}
 use Rattle.type_rules.proofs.NumberRules.{string-number, function-number}
 
 -- ── a field: its name, then its type ──

@@ -1,26 +1,26 @@
 -- Value types judged word by word.
 use Prim.Native.Nat.{ℕ, _+_, _-_, _≤_, _<_}
 use mathlib.Core.Path.{_≡_, refl, sym, ap, _∙_}
-use mathlib.Core.List.{List, []}
+use mathlib.Core.List.{List}
 use mathlib.Core.Bool.{Bool, true, false, cond}
 use native.Mathlib.Omega.{arith}
 use native.Mathlib.Decide.{decLt}
 use lib.Dec.{ltb}
-use lib.ListN.{length, getD}
+use lib.ListN.{getD}
 use borrow.Author.Tests.{lt-ltb, le-ltb}
 use Rattle.blocks.specs.Blocks.{words}
 use Rattle.blocks.specs.Frame.{firstWords}
 use Rattle.error.specs.declared.What.the-variants.{Types}
 use Rattle.error.specs.declared.LoadErrorKind.{LoadErrorKind}
 use Rattle.error.specs.declared.Verdict.{Verdict}
-use Rattle.error.specs.declared.Verdict.the-variants.{Holds, Broken}
+use Rattle.error.specs.declared.Verdict.the-variants.{Holds}
 use Rattle.error.specs.Answer.{inRange}
 use Rattle.error.specs.Verdict.{verdictOf}
-use Rattle.reader.specs.Reader.{Got, broken, got, Reader, andThen, word, listOf}
+use Rattle.reader.specs.Reader.{broken, got, Reader, word}
 use Rattle.reader.specs.StepLaws.{word-read, word-none}
 use Rattle.reader.specs.Value.{Whole, valueOf}
 use Rattle.reader.specs.ValueLaws.{not-whole, value-got}
-use Rattle.sheet.specs.Module.{ValueType, basic, ref, dyn, firstRef, Module}
+use Rattle.sheet.specs.Module.{ValueType, basic, ref, dyn, firstRef}
 use Rattle.sheet.specs.Decode.{valueType}
 use Rattle.sheet.specs.Encode.{encodeValue}
 use Rattle.sheet.specs.TypeCodes.{value-codes}

@@ -1,5 +1,4 @@
 -- Parts of rule 2 on structs, for the functions that judge them.
-use Prim.Native.Nat.{ℕ}
 use mathlib.Core.List.{List, _++_}
 use lib.ListN.{take}
 use Rattle.lists.specs.Lists.{concatMap}

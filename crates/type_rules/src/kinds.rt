@@ -40,8 +40,9 @@ fn check_two(sheet: &[u8], o: Opened, at: usize) -> Verdict
     requires { ⌜ Opens (firstWords (now sheet) (o .layout .words)) o ⌝ }
     ensures { λ r. ⌜ r ≡ verdictOf (typeFaults (moduleIn (firstWords (now (sheet .entry)) (o .layout .words))) (valueOf coroutine (ofTwo map (firstWords (now (sheet .entry)) (o .layout .words)) at))) ⌝ }
 {
+    let value_at = at + 1;
     match check_value(sheet, o, at) {
-        Verdict::Holds => check_value(sheet, o, at + 1),
+        Verdict::Holds => check_value(sheet, o, value_at),
         Verdict::Broken(k) => Verdict::Broken(k),
     }
 }

@@ -5,14 +5,14 @@ use Rattle.type_rules.proofs.KindRules.{two-in, two-key, two-value, two
 use Rattle.type_rules.proofs.kinds.check_two.Statement.{statement}
 use Rattle.type_rules.proofs.kinds.check_two.Tie as tie
 
+add-value-at : tie.Need-add-value-at
+add-value-at c = omega (arith, two-in)
+
 check-value-requires : tie.Need-check-value-requires
 check-value-requires c κs = search (needs, two-key, two-value, two-stop, two-then)
 
 enum-told : tie.Need-enum-told
 enum-told c = search needs
-
-add-check-value : tie.Need-add-check-value
-add-check-value c = omega (arith, two-in)
 
 check-value-requires-2 : tie.Need-check-value-requires-2
 check-value-requires-2 c κs = search (needs, two-key, two-value, two-stop, two-then)
@@ -30,9 +30,9 @@ pub check-two-spec : {M : Type 1} → statement M
 check-two-spec =
     tie.close
     (tie.spec
+    add-value-at
     check-value-requires
     enum-told
-    add-check-value
     check-value-requires-2
     enum-known-k
     returns
