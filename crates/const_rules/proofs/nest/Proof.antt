@@ -3,7 +3,7 @@ use borrow.Author.Needs.{needs}
 use native.Mathlib.Omega.{arith}
 use Prim.Native.Nat.{_*_}
 use Rattle.blocks.specs.Frame.{firstWords}
-use Rattle.const_rules.proofs.Children.{Nests, nests, child-within}
+use Rattle.const_rules.proofs.Children.{Nests, nests, nests-far, nests-deep, child-within}
 use Rattle.const_rules.proofs.nest.Statement.{statement}
 use Rattle.const_rules.proofs.nest.Tie as tie
 
@@ -20,13 +20,13 @@ word-requires : tie.Need-word-requires Inv-loop μ-loop
 word-requires c κs = search (needs, nests)
 
 returns : tie.Need-returns Inv-loop μ-loop
-returns c = search (needs, nests)
+returns c = nests-far _ _ _ _ _ _ _ _ _ _ _ (c .before .before .before .before .before .loop .inv) (c .before .before .before .before .loop-test .taken) (c .before .before .before .word .ensures) (omega arith)
 
 depth-at-requires : tie.Need-depth-at-requires Inv-loop μ-loop
 depth-at-requires c κs = search (needs, nests)
 
 returns-2 : tie.Need-returns-2 Inv-loop μ-loop
-returns-2 c = search (needs, nests)
+returns-2 c = nests-deep _ _ _ _ _ _ _ _ _ _ _ (c .before .before .before .before .before .before .before .loop .inv) (c .before .before .before .before .before .before .loop-test .taken) (c .before .before .before .before .before .word .ensures) (c .before .before .if1 .left) (c .before .depth-at .ensures) (omega arith)
 
 add-deeper : tie.Need-add-deeper Inv-loop μ-loop
 add-deeper c = search (needs, nests)
