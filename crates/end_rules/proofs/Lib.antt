@@ -1,0 +1,2 @@
+pub mod ExportSteps
+pub mod StartSteps
