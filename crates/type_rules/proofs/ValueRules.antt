@@ -12,12 +12,10 @@ use Rattle.blocks.specs.Blocks.{words}
 use Rattle.blocks.specs.Frame.{firstWords}
 use Rattle.error.specs.declared.What.the-variants.{Types}
 use Rattle.error.specs.declared.LoadErrorKind.{LoadErrorKind}
-use Rattle.error.specs.declared.LoadErrorKind.the-variants.{OutOfRange}
 use Rattle.error.specs.declared.Verdict.{Verdict}
 use Rattle.error.specs.declared.Verdict.the-variants.{Holds, Broken}
 use Rattle.error.specs.Answer.{inRange}
 use Rattle.error.specs.Verdict.{verdictOf}
-use Rattle.error.specs.VerdictLaws.{range-holds, range-broken}
 use Rattle.reader.specs.Reader.{Got, broken, got, Reader, andThen, word, listOf}
 use Rattle.reader.specs.StepLaws.{word-read, word-none}
 use Rattle.reader.specs.Value.{Whole, valueOf}
@@ -27,6 +25,9 @@ use Rattle.sheet.specs.Decode.{valueType}
 use Rattle.sheet.specs.Encode.{encodeValue}
 use Rattle.sheet.specs.TypeCodes.{value-codes}
 use Rattle.layout.specs.Opened.{moduleIn}
+use Rattle.opening.specs.declared.Opened.{Opened}
+use Rattle.opening.specs.Ready.{Opens}
+use Rattle.opening.specs.ReadyLaws.{count-types}
 use Rattle.types.specs.Types.{valueFaults}
 use Rattle.judging.specs.Judging.{Judges, judges-next, judges-whole}
 
@@ -72,18 +73,11 @@ module _ (b : List ℕ) (n at : ℕ) where
       go (yes k) = unfold valueFaults verdictOf in ap (λ v. verdictOf (valueFaults (moduleIn (firstWords b n)) v)) (sym (value-got dyn (basic-read (value-in h) e k)))
       go (no k) = absurd (not-whole (unlisted-read (value-in h) e (omega arith) l) h)
 
-  pub value-near : {w types : ℕ} → Whole (valueType (firstWords b n) at) → types ≡ length (moduleIn (firstWords b n) .types) → w ≡ getD (words b) at 0 → 16 ≤ w → w - 16 < types →
-      Holds ≡ verdictOf (valueFaults (moduleIn (firstWords b n)) (valueOf dyn (valueType (firstWords b n) at)))
+  pub value-ref : {w : ℕ} {r : Verdict} (o : Opened) → Whole (valueType (firstWords b n) at) → Opens (firstWords b n) o → w ≡ getD (words b) at 0 → 16 ≤ w →
+      r ≡ verdictOf (inRange Types (o .counts .types) (w - 16)) → r ≡ verdictOf (valueFaults (moduleIn (firstWords b n)) (valueOf dyn (valueType (firstWords b n) at)))
   unfolding valueFaults
-  value-near {w} h z e l k =
-      range-holds Types (length (moduleIn (firstWords b n) .types)) (w - 16) (omega arith)
-      ∙ ap (λ v. verdictOf (valueFaults (moduleIn (firstWords b n)) v)) (sym (value-got dyn (ref-read (value-in h) e l)))
-
-  pub value-far : {w types : ℕ} → Whole (valueType (firstWords b n) at) → types ≡ length (moduleIn (firstWords b n) .types) → w ≡ getD (words b) at 0 → 16 ≤ w → types ≤ w - 16 →
-      Broken (OutOfRange Types (w - 16)) ≡ verdictOf (valueFaults (moduleIn (firstWords b n)) (valueOf dyn (valueType (firstWords b n) at)))
-  unfolding valueFaults
-  value-far {w} h z e l k =
-      range-broken Types (length (moduleIn (firstWords b n) .types)) (w - 16) (omega arith)
+  value-ref {w} o h x e l k =
+      k ∙ ap (λ c. verdictOf (inRange Types c (w - 16))) (count-types (firstWords b n) o x)
       ∙ ap (λ v. verdictOf (valueFaults (moduleIn (firstWords b n)) v)) (sym (value-got dyn (ref-read (value-in h) e l)))
 
 -- ── a list ──
@@ -94,5 +88,8 @@ unfolding encodeValue
 value-ends ws q a p e = value-codes ws .found q a p e .stands .end
 
 module _ (faults : ValueType → List LoadErrorKind) (ws : List ℕ) (at left q : ℕ) (x : Judges valueType faults ws at left q) (h : 0 < left) where
+  pub value-whole : Whole (valueType ws q)
+  value-whole = judges-whole valueType faults ws at left q x h
+
   pub values-next : {r : Verdict} → r ≡ Holds → r ≡ verdictOf (faults (valueOf dyn (valueType ws q))) → Judges valueType faults ws at (left - 1) (q + 1)
   values-next e k = judges-next valueType faults ws at left q x h dyn (q + 1) e k (value-ends ws q)

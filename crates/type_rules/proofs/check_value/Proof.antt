@@ -1,7 +1,7 @@
 -- `type_rules::check_value` meets its contract.
 use borrow.Author.Needs.{needs}
 use native.Mathlib.Omega.{arith}
-use Rattle.type_rules.proofs.ValueRules.{value-plain, value-near, value-far}
+use Rattle.type_rules.proofs.ValueRules.{value-plain, value-ref}
 use Rattle.type_rules.proofs.check_value.Statement.{statement}
 use Rattle.type_rules.proofs.check_value.Tie as tie
 
@@ -9,13 +9,13 @@ word-requires : tie.Need-word-requires
 word-requires c κs = search needs
 
 returns : tie.Need-returns
-returns c = search (needs, value-plain, value-near, value-far)
+returns c = search (needs, value-plain, value-ref)
+
+type-in-requires : tie.Need-type-in-requires
+type-in-requires c κs = search needs
 
 returns-2 : tie.Need-returns-2
-returns-2 c = search (needs, value-plain, value-near, value-far)
-
-returns-3 : tie.Need-returns-3
-returns-3 c = search (needs, value-plain, value-near, value-far)
+returns-2 c = search (needs, value-plain, value-ref)
 
 pub check-value-spec : {M : Type 1} → statement M
-check-value-spec = tie.close (tie.spec word-requires returns returns-2 returns-3)
+check-value-spec = tie.close (tie.spec word-requires returns type-in-requires returns-2)

@@ -7,15 +7,15 @@ use Rattle.sheet.specs.Decode.{valueType}
 use Rattle.layout.specs.Opened.{moduleIn}
 use Rattle.types.specs.Types.{valueFaults}
 use Rattle.judging.specs.Judging.{Judges, judges-start, judges-end, judges-stop, judges-whole}
-use Rattle.type_rules.proofs.ValueRules.{values-next, value-in}
+use Rattle.type_rules.proofs.ValueRules.{value-whole, values-next, value-in}
 use Rattle.type_rules.proofs.check_values.Statement.{statement}
 use Rattle.type_rules.proofs.check_values.Tie as tie
 
 abbrev Inv-loop : tie.InvT-loop
-Inv-loop sheet n at types left₀ p₀ left p = Judges valueType (valueFaults (moduleIn (firstWords sheet n))) (firstWords sheet n) at left p
+Inv-loop sheet o at left₀ p₀ left p = Judges valueType (valueFaults (moduleIn (firstWords sheet (o .layout .words)))) (firstWords sheet (o .layout .words)) at left p
 
 abbrev μ-loop : tie.MeasureT-loop
-μ-loop sheet n at types left₀ p₀ left p = left
+μ-loop sheet o at left₀ p₀ left p = left
 
 word-requires : tie.Need-word-requires Inv-loop μ-loop
 word-requires c κs = search (needs, judges-start, judges-end, judges-stop, judges-whole, values-next)
@@ -27,7 +27,7 @@ loop-holds : tie.Need-loop-holds Inv-loop μ-loop
 loop-holds c = search (needs, judges-start, judges-end, judges-stop, judges-whole, values-next)
 
 check-value-requires : tie.Need-check-value-requires Inv-loop μ-loop
-check-value-requires c κs = (judges-whole _ _ _ _ _ _ (c .before .loop .inv) (c .loop-test .taken), c .before .before .before .before .pre .1)
+check-value-requires c κs = search (needs, value-whole)
 
 enum-told : tie.Need-enum-told Inv-loop μ-loop
 enum-told c = search (needs, judges-start, judges-end, judges-stop, judges-whole, values-next)
