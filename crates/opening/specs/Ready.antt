@@ -9,6 +9,7 @@ use Rattle.sheet.specs.Module.{Module}
 use Rattle.sheet.specs.Decode.{typeDef, constOf, importOf, functionOf}
 use Rattle.layout.specs.LayoutLaws.{Located}
 use Rattle.layout.specs.Opened.{moduleIn}
+use Rattle.index.specs.Index.{indexOf}
 use Rattle.canon.specs.Canon.{canonString, canonType}
 use Rattle.region.specs.Region.{Frame}
 use Rattle.opening.specs.declared.Counts.{Counts}
@@ -42,6 +43,7 @@ pub record Entries {A : Type 0} (f : Reader A) (ws : List ℕ) (xs : List A) (w 
 pub record Ready (ws w : List ℕ) (o : Opened) : Type 0 where
   pub opens : Opens ws o
   pub room : 64 + 8 * o .layout .words ≤ length w
+  pub edges : o .index ≡ indexOf ws (o .layout)
   pub inside : o .index .end ≤ o .layout .words
   pub strings : Entries string ws (moduleIn ws .strings) w (o .index .strings)
   pub types : Entries typeDef ws (moduleIn ws .types) w (o .index .types)

@@ -14,6 +14,9 @@ use Rattle.sheet.specs.Module.{TypeDef, coroutine, typeAt, Const, Import, Func,
 use Rattle.sheet.specs.Decode.{typeDef, constOf, importOf, functionOf}
 use Rattle.layout.specs.LayoutLaws.{Located}
 use Rattle.layout.specs.Opened.{moduleIn}
+use Rattle.index.specs.declared.Index.{Index}
+use Rattle.index.specs.Index.{indexOf}
+use Rattle.index.specs.SheetIndex.{strings-indexed, types-indexed, consts-indexed, imports-indexed, funcs-indexed}
 use Rattle.region.specs.Region.{Frame}
 use Rattle.opening.specs.declared.Counts.{Counts}
 use Rattle.opening.specs.declared.Opened.{Opened}
@@ -91,3 +94,83 @@ module _ (ws w : List ℕ) (o : Opened) (x : Ready ws w o) where
 
   pub funcs-in : (f : ℕ) → f < o .counts .funcs → f < length (moduleIn ws .funcs)
   funcs-in f h = omega (arith, count-funcs ws o (x .opens))
+
+-- ── each part's edges are inside the index ──
+
+module _ (ws w : List ℕ) (o : Opened) (x : Ready ws w o) where
+  -- what an edge is, by the layout
+  edge : (f : Index → ℕ) → f (o .index) ≡ f (indexOf ws (o .layout))
+  edge f = ap f (x .edges)
+
+  pub strings-inside : o .index .strings + length (moduleIn ws .strings) < o .layout .words
+  unfolding indexOf
+  strings-inside =
+      omega (
+        arith,
+        x .inside,
+        edge (λ (i : Index). i .strings),
+        edge (λ (i : Index). i .end),
+        strings-indexed ws (moduleIn ws) (o .layout) (x .opens .located) .count,
+      )
+
+  pub types-inside : o .index .types + length (moduleIn ws .types) < o .layout .words
+  unfolding indexOf
+  types-inside =
+      omega (
+        arith,
+        x .inside,
+        edge (λ (i : Index). i .types),
+        edge (λ (i : Index). i .end),
+        types-indexed ws (moduleIn ws) (o .layout) (x .opens .located) .count,
+      )
+
+  pub consts-inside : o .index .consts + length (moduleIn ws .consts) < o .layout .words
+  unfolding indexOf
+  consts-inside =
+      omega (
+        arith,
+        x .inside,
+        edge (λ (i : Index). i .consts),
+        edge (λ (i : Index). i .end),
+        consts-indexed ws (moduleIn ws) (o .layout) (x .opens .located) .count,
+      )
+
+  pub imports-inside : o .index .imports + length (moduleIn ws .imports) < o .layout .words
+  unfolding indexOf
+  imports-inside =
+      omega (
+        arith,
+        x .inside,
+        edge (λ (i : Index). i .imports),
+        edge (λ (i : Index). i .end),
+        imports-indexed ws (moduleIn ws) (o .layout) (x .opens .located) .count,
+      )
+
+  pub funcs-inside : o .index .funcs + length (moduleIn ws .funcs) < o .layout .words
+  unfolding indexOf
+  funcs-inside =
+      omega (
+        arith,
+        x .inside,
+        edge (λ (i : Index). i .funcs),
+        edge (λ (i : Index). i .end),
+        funcs-indexed ws (moduleIn ws) (o .layout) (x .opens .located) .count,
+      )
+
+  -- the sheet is still ready when only free words were written
+  pub ready-kept : (v : List ℕ) → Kept o w v → Ready ws v o
+  unfolding Kept
+  ready-kept v k = record {
+    opens = x .opens;
+    room = omega (arith, x .room, k .len);
+    edges = x .edges;
+    inside = x .inside;
+    strings = entries-kept string ws _ w _ (x .strings) (λ k. k < 5 * o .layout .words) v k λ i h. omega (arith, strings-inside);
+    types = entries-kept typeDef ws _ w _ (x .types) (λ k. k < 5 * o .layout .words) v k λ i h. omega (arith, types-inside);
+    consts = entries-kept constOf ws _ w _ (x .consts) (λ k. k < 5 * o .layout .words) v k λ i h. omega (arith, consts-inside);
+    imports = entries-kept importOf ws _ w _ (x .imports) (λ k. k < 5 * o .layout .words) v k λ i h. omega (arith, imports-inside);
+    funcs = entries-kept functionOf ws _ w _ (x .funcs) (λ k. k < 5 * o .layout .words) v k λ i h. omega (arith, funcs-inside);
+    stringNumbers = λ s h. k .same (o .layout .words + s) (omega (arith, strings-inside)) ∙ x .stringNumbers s h;
+    typeNumbers = λ t h. k .same (2 * o .layout .words + t) (omega (arith, types-inside)) ∙ x .typeNumbers t h;
+    marks = λ s h. k .same (3 * o .layout .words + s) (omega (arith, strings-inside)) ∙ x .marks s h;
+  }
