@@ -284,6 +284,7 @@ module _ (ws w v u z : List ℕ) (l : Layout) (x : Filed ws w l) {s t k s-at t-a
       ready ei ec = rw ei (record {
         opens = record { located = x .located; counts = ec };
         room = filed-third .room;
+        edges = refl;
         inside = index-inside ws z l filed-third;
         strings = strings-filed ws z l filed-third;
         types = types-filed ws z l filed-third;
