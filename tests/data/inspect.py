@@ -3,38 +3,7 @@
 
 A case is a list of words after N, or bytes; written here from paper 01 alone.
 """
-import os, shutil
-
-HERE = os.path.dirname(os.path.dirname(os.path.dirname(os.path.abspath(__file__)))) + '/crates/inspect'
-
-def blocks(words, count=None):
-    count = count or max(1, -(-len(words) // 127))
-    words = words + [0] * (127 * count - len(words))
-    out = b''
-    for k in range(count):
-        body = b''.join(w.to_bytes(4, 'little') for w in words[127 * k:127 * k + 127])
-        out += body + ((k + sum(i * b for i, b in enumerate(body, 1))) % 65521).to_bytes(4, 'little')
-    return out
-
-def sheet(body, count=None, edition=1, n=None):
-    return blocks([edition, len(body) + 2 if n is None else n] + body, count)
-
-def string(text):
-    text = text if isinstance(text, bytes) else text.encode()
-    padded = text + b'\0' * (-len(text) % 4)
-    return [len(text)] + [int.from_bytes(padded[i:i + 4], 'little') for i in range(0, len(padded), 4)]
-
-def listed(*members):
-    return [len(members)] + sum(members, [])
-
-# strings, types, constants, imports, globals, functions, hooks, start + 1, exports
-def parts(strings=(), types=(), consts=(), imports=(), globals_=(), funcs=(), hooks=(), start=0, exports=()):
-    return (listed(*[string(s) for s in strings]) + listed(*types) + listed(*consts) + listed(*imports)
-            + listed(*globals_) + listed(*funcs) + listed(*hooks) + [start] + listed(*exports))
-
-def func(sig=0, regs=(), params=(0,), shapes=(), code=((1, 0),)):
-    return ([sig] + listed(*[[r] for r in regs]) + list(params) + listed(*[listed(*s) for s in shapes])
-            + [0, 0, 0, 0, 0] + listed(*[list(i) for i in code]))
+from sheets import blocks, func, parts, sheet, write
 
 RICH = dict(strings=['Aufzug', 'é', '日本語'], types=[[0, 1, 12, 1, 12], [1, 0, 0, 1, 1, 16, 1, 2, 0], [2, 11], [3, 4, 12], [4, 12], [5, 0, 10], [6]],
             consts=[[0, 7, 0], [1, 2], [2, 2, 0, 1], [3, 1, 0, 1]], imports=[[0, 1, 0, 0], [0, 2, 0, 1, 1, 0, 0]], globals_=[[12, 0], [17, 1]],
@@ -102,15 +71,5 @@ for name, octets in (('overlong-2', b'\xc0\x80'), ('overlong-3', b'\xe0\x9f\xbf'
     broken('utf8-' + name, sheet(parts(strings=[octets])))
 intact('utf8-last-of-each', {'strings': [b'\x7f\xdf\xbf\xef\xbf\xbf\xf4\x8f\xbf\xbf', b'\xed\x9f\xbf\xee\x80\x80']})
 
-def main():
-    shutil.rmtree(HERE + '/data', ignore_errors=True)
-    os.makedirs(HERE + '/data')
-    for name, data, _ in CASES:
-        open(f'{HERE}/data/{name}', 'wb').write(data)
-    names = [name for name, _, _ in CASES] + ['missing-file']
-    open(HERE + '/args', 'w').write(''.join(n + '\n' for n in names))
-    lines = [f'{name} {expected}' for name, _, expected in CASES] + ['missing-file broken']
-    open(HERE + '/stdout', 'w').write(''.join(l + '\n' for l in lines))
-
 if __name__ == '__main__':
-    main()
+    write('inspect', CASES, 'broken')
