@@ -1,5 +1,7 @@
-// Replays stored cases (tests/compare/README.md has their format) as far as the layout: kinds 1, 23 and 24, in that order.
-// A case of another kind must pass these three. Prints how many cases were replayed, how many differed, and which.
+// Replays stored cases (tests/compare/README.md has their format): kinds 1, 23 and 24, and then rules 2 to 4.
+// A case of another kind must pass these three. Where rules 2 to 4 refuse, the case's six numbers must be theirs; where they pass,
+// its kind must be none that only they give. Prints how many cases were replayed, how many differed, and which.
+use error::numbers::SixNumbers;
 use host::Listed;
 use layout::Checked;
 use libc::STDOUT_FILENO;
@@ -10,7 +12,7 @@ struct Case {
     hosts: usize,
     table: usize,
     work: usize,
-    kind: u32,
+    answer: SixNumbers,
     linked: usize,
 }
 
@@ -65,21 +67,82 @@ fn expected(kind: u32) -> u32 {
     }
 }
 
+fn read_answer(h: &[u8; 44]) -> SixNumbers {
+    SixNumbers {
+        kind: le(h[16], h[17], h[18], h[19]),
+        word: le(h[20], h[21], h[22], h[23]),
+        number: le(h[24], h[25], h[26], h[27]),
+        second: le(h[28], h[29], h[30], h[31]),
+        func: le(h[32], h[33], h[34], h[35]),
+        pc: le(h[36], h[37], h[38], h[39]),
+    }
+}
+
 fn read_case(h: &[u8; 44]) -> Case {
+    let answer = read_answer(h);
     Case {
         sheet: le(h[0], h[1], h[2], h[3]) as usize,
         hosts: le(h[4], h[5], h[6], h[7]) as usize,
         table: le(h[8], h[9], h[10], h[11]) as usize,
         work: le(h[12], h[13], h[14], h[15]) as usize,
-        kind: le(h[16], h[17], h[18], h[19]),
+        answer: answer,
         linked: le(h[40], h[41], h[42], h[43]) as usize,
     }
+}
+
+fn are_same(a: SixNumbers, b: SixNumbers) -> bool {
+    if a.kind != b.kind {
+        return false;
+    }
+    if a.word != b.word {
+        return false;
+    }
+    if a.number != b.number {
+        return false;
+    }
+    if a.second != b.second {
+        return false;
+    }
+    if a.func != b.func {
+        return false;
+    }
+    a.pc == b.pc
+}
+
+// Kinds that rules 2 to 4 alone give: 16, 17 and 18.
+fn passes_front(kind: u32) -> bool {
+    match kind {
+        16 | 17 | 18 => false,
+        _ => true,
+    }
+}
+
+// Rules 2 to 4 agree with the answer of a case whose layout passes.
+fn front_agrees(sheet: &[u8], answer: SixNumbers) -> bool {
+    let mut work = [0u32; 65600];
+    let found = error::numbers::numbers(rules::judge_front(sheet, &mut work));
+    if found.kind == 0 {
+        return passes_front(answer.kind);
+    }
+    are_same(found, answer)
+}
+
+fn agrees(sheet: &[u8], hosts: &[u8], table: usize, work: usize, answer: SixNumbers) -> bool {
+    let kind = layout_kind(sheet, hosts, table, work);
+    if kind != expected(answer.kind) {
+        return false;
+    }
+    if kind == 0 {
+        return front_agrees(sheet, answer);
+    }
+    true
 }
 
 fn is_same(sheet: &[u8], n: usize, hosts: &[u8], m: usize, c: Case) -> bool {
     if n <= sheet.len() {
         if m <= hosts.len() {
-            return layout_kind(&sheet[..n], &hosts[..m], c.table, c.work) == expected(c.kind);
+            let answer = c.answer;
+            return agrees(&sheet[..n], &hosts[..m], c.table, c.work, answer);
         }
     }
     false

@@ -5,17 +5,14 @@ use lib.ListN.{length-take}
 use Rattle.replay.proofs.is_same.Statement.{statement}
 use Rattle.replay.proofs.is_same.Tie as tie
 
-slice-aggregate-layout-kind : tie.Need-slice-aggregate-layout-kind
-slice-aggregate-layout-kind c = omega (arith, length-take (c .before .before .before .before .before .args .n) (c .before .before .before .before .before .args .sheet .now))
+slice-aggregate-agrees : tie.Need-slice-aggregate-agrees
+slice-aggregate-agrees c = omega (arith, length-take (c .before .before .before .before .before .before .args .n) (c .before .before .before .before .before .before .args .sheet .now))
 
-slice-aggregate-layout-kind-2 : tie.Need-slice-aggregate-layout-kind-2
-slice-aggregate-layout-kind-2 c = omega (arith, length-take (c .before .before .before .before .before .before .args .m) (c .before .before .before .before .before .before .args .hosts .now))
+slice-aggregate-agrees-2 : tie.Need-slice-aggregate-agrees-2
+slice-aggregate-agrees-2 c = omega (arith, length-take (c .before .before .before .before .before .before .before .args .m) (c .before .before .before .before .before .before .before .args .hosts .now))
 
-layout-kind-requires : tie.Need-layout-kind-requires
-layout-kind-requires c κs = search needs
-
-expected-requires : tie.Need-expected-requires
-expected-requires c κs = search needs
+agrees-requires : tie.Need-agrees-requires
+agrees-requires c κs = search needs
 
 returns : tie.Need-returns
 returns c = search needs
@@ -30,10 +27,9 @@ pub is-same-spec : {M : Type 1} → statement M
 is-same-spec =
     tie.close
     (tie.spec
-    slice-aggregate-layout-kind
-    slice-aggregate-layout-kind-2
-    layout-kind-requires
-    expected-requires
+    slice-aggregate-agrees
+    slice-aggregate-agrees-2
+    agrees-requires
     returns
     returns-2
     returns-3)
