@@ -1,0 +1,3 @@
+pub mod FitSteps
+pub mod BoundSteps
+pub mod HookSteps
