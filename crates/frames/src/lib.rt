@@ -1,9 +1,11 @@
 // A function with its parts at hand, for rules over its code.
 ghost use mathlib.Core.Path.{_≡_};
-ghost use Prim.Native.Nat.{_<_};
+ghost use Prim.Native.Nat.{_+_, _*_, _<_};
 ghost use Rattle.blocks.specs.Frame.{firstWords};
 ghost use Rattle.opening.specs.Ready.{Ready};
-ghost use Rattle.frames.specs.Frames.{Framed};
+ghost use Rattle.region.specs.Region.{Off};
+ghost use Rattle.region.specs.Region as region;
+ghost use Rattle.frames.specs.Frames.{Framed, Shaped};
 use blocks::word;
 use bodies::Body;
 use bodies::locate_body;
@@ -44,5 +46,22 @@ pub fn open_frame(sheet: &[u8], work: &[u32], o: Opened, f: FuncId) -> Frame
         handlers: word(sheet, body.handlers),
         tables: word(sheet, body.tables),
         code: word(sheet, body.code),
+    }
+}
+
+// Writes the length of each call shape, from word 7 * words of work on, and nothing else.
+pub fn index_shapes(sheet: &[u8], work: &mut [u32], o: Opened, c: Frame)
+    requires { ⌜ Ready (firstWords (now sheet) (o .layout .words)) (now work) o ⌝ }
+    requires { ⌜ Framed (firstWords (now sheet) (o .layout .words)) c ⌝ }
+    ensures { λ r. ⌜ region.Frame (Off (7 * o .layout .words) (7 * o .layout .words + c .shapes)) (now (work .entry)) (now (work .exit)) ⌝ }
+    ensures { λ r. ⌜ Shaped (firstWords (now (sheet .entry)) (o .layout .words)) (now (work .exit)) o c ⌝ }
+{
+    let mut p = c.body.shapes + 1;
+    let mut k = 0;
+    while k < c.shapes {
+        let n = word(sheet, p);
+        work[7 * o.layout.words + k as usize] = n;
+        p = p + 1 + 2 * n as usize;
+        k += 1;
     }
 }
