@@ -1,28 +1,23 @@
 -- What an instruction calls, or makes: by number.
 use Prim.Native.Nat.{ℕ, _+_, _*_, _≤_, _<_}
-use mathlib.Core.Path.{_≡_, refl, sym, ap, _∙_}
-use mathlib.Core.List.{List, [], _++_}
+use mathlib.Core.Path.{_≡_, refl, ap, _∙_}
+use mathlib.Core.List.{List, _++_}
 use native.Mathlib.Omega.{arith}
-use lib.Dec.{eqb, leb}
 use lib.ListN.{length, getD}
 use Rattle.blocks.specs.Blocks.{words}
 use Rattle.blocks.specs.Frame.{firstWords}
 use Rattle.blocks.specs.FirstWords.{length-firstWords}
-use Rattle.error.specs.declared.What.the-variants.{Registers}
-use Rattle.error.specs.declared.FuncId.{FuncId}
 use Rattle.error.specs.declared.LoadErrorKind.{LoadErrorKind}
-use Rattle.error.specs.declared.LoadErrorKind.the-variants.{CalleeHasCaptures, OutOfRange}
+use Rattle.error.specs.declared.LoadErrorKind.the-variants.{CalleeHasCaptures}
 use Rattle.error.specs.declared.Verdict.{Verdict}
 use Rattle.error.specs.declared.Verdict.the-variants.{Holds, Broken}
 use Rattle.error.specs.Answer.{unless}
 use Rattle.error.specs.Verdict.{verdictOf}
 use Rattle.error.specs.VerdictLaws.{verdict-then, verdict-stop}
 use Rattle.reader.specs.Reader.{got}
-use Rattle.reader.specs.ReaderLaws.{stands-in}
-use Rattle.sheet.specs.Module.{Import, Func, Module}
 use Rattle.sheet.specs.Decode.{importOf, functionOf}
 use Rattle.sheet.specs.Encode.{encodeImport, encodeFunc}
-use Rattle.sheet.specs.FuncCodes.{import-codes, function-codes, shapes-codes}
+use Rattle.sheet.specs.FuncCodes.{import-codes, function-codes}
 use Rattle.layout.specs.Opened.{moduleIn}
 use Rattle.imports.specs.Params.{sigParams}
 use Rattle.opening.specs.declared.Opened.{Opened}
@@ -31,9 +26,9 @@ use Rattle.opening.specs.ReadyLaws.{funcs-in, imports-in, entry-room, entry-end
 use Rattle.code.specs.Callee.{noFunc, noImport, funcAt, importAt, noCaptures}
 use Rattle.code.specs.Code.{windowFaults, arityFaults, directFaults}
 use Rattle.frames.specs.declared.Frame.{Frame}
-use Rattle.frames.specs.Frames.{funcOf, Framed, Captured, Shaped}
+use Rattle.frames.specs.Frames.{funcOf, Framed}
 use Rattle.inst_rules.specs.Counted.{windowIn, captureFaults, importFaults, Checkable}
-use Rattle.inst_rules.proofs.Words.{word-within, word-held, few-captures, few-args, few-shapes}
+use Rattle.inst_rules.proofs.Words.{word-within, word-held, few-captures}
 
 -- ── functions and imports by number ──
 

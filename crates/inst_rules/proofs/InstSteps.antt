@@ -5,11 +5,10 @@ use mathlib.Core.List.{List, [], _∷_, _++_}
 use mathlib.Core.Bool.{Bool, true, false}
 use native.Mathlib.Omega.{arith}
 use lib.Dec.{eqb, ltb}
-use lib.ListN.{length, getD}
+use lib.ListN.{getD}
 use borrow.Author.Tests.{eqb-true, ltb-true}
 use Rattle.lists.specs.Lists.{all}
 use Rattle.lists.specs.ListLaws.{all-at}
-use Rattle.blocks.specs.Frame.{firstWords}
 use Rattle.error.specs.declared.What.{What}
 use Rattle.error.specs.declared.What.the-variants.{Functions, Constants, Registers, Imports, Globals, BranchTargets, Tables, Names, TypeRefs, Captures, CallShapes}
 use Rattle.error.specs.declared.LoadErrorKind.{LoadErrorKind}

@@ -1,6 +1,6 @@
 -- The kind of a type that a type ref names.
 use Prim.Native.Nat.{ℕ, _+_, _≤_, _<_}
-use mathlib.Core.Path.{_≡_, refl, sym, ap, _∙_}
+use mathlib.Core.Path.{_≡_, sym, ap, _∙_}
 use mathlib.Core.List.{List}
 use native.Mathlib.Omega.{arith}
 use lib.Dec.{eqb}
@@ -11,11 +11,9 @@ use Rattle.blocks.specs.Frame.{firstWords}
 use Rattle.error.specs.declared.TypeKind.{TypeKind}
 use Rattle.error.specs.declared.TypeKind.the-variants.{Struct, Array, Map, Cell}
 use Rattle.error.specs.declared.LoadErrorKind.the-variants.{WrongTypeKind}
-use Rattle.error.specs.declared.Verdict.{Verdict}
 use Rattle.error.specs.declared.Verdict.the-variants.{Holds, Broken}
 use Rattle.error.specs.Answer.{typeKindWord}
 use Rattle.error.specs.Verdict.{verdictOf}
-use Rattle.reader.specs.Reader.{got}
 use Rattle.sheet.specs.Module.{coroutine, typeAt, kindWord}
 use Rattle.sheet.specs.Decode.{typeDef}
 use Rattle.sheet.specs.Encode.{encodeType}

@@ -13,7 +13,7 @@ use Rattle.error.specs.declared.TypeKind.{TypeKind}
 use Rattle.error.specs.declared.LoadErrorKind.{LoadErrorKind}
 use Rattle.error.specs.declared.LoadErrorKind.the-variants.{TailCallInTry}
 use Rattle.error.specs.declared.Verdict.{Verdict}
-use Rattle.error.specs.declared.Verdict.the-variants.{Holds, Broken}
+use Rattle.error.specs.declared.Verdict.the-variants.{Holds}
 use Rattle.error.specs.Answer.{unless}
 use Rattle.error.specs.Verdict.{verdictOf}
 use Rattle.reader.specs.ReaderLaws.{stands-in}

@@ -17,7 +17,7 @@ use Rattle.reader.specs.ReadLaws.{read-at}
 use Rattle.sheet.specs.Module.{ValueType, basic, ref, valueWord, isDyn, Arg, Func}
 use Rattle.sheet.specs.Decode.{valueType, functionOf, argOf}
 use Rattle.sheet.specs.Encode.{encodeValue, encodeParams, encodeArg, encodeHandler, encodeSwitch, encodeInst, encodeFunc}
-use Rattle.sheet.specs.TypeCodes.{value-codes, values-codes}
+use Rattle.sheet.specs.TypeCodes.{values-codes}
 use Rattle.sheet.specs.FuncCodes.{arg-codes, args-codes, function-codes}
 use Rattle.index.specs.IndexLaws.{list-fit, indexed}
 
