@@ -1,7 +1,6 @@
 -- Rules over an instruction's numbers.
 use Prim.Native.Nat.{ℕ, _+_, _-_, _≤_, _<_}
 use mathlib.Core.Path.{_≡_, refl, sym, ap, _∙_}
-use mathlib.Core.List.{List, [], _∷_}
 use mathlib.Core.Bool.{Bool, true, false, not, _||_}
 use lib.Dec.{eqb, leb, ltb}
 use borrow.Author.Tests.{le-leb, lt-leb, eq-eqb, ne-eqb, lt-ltb, le-ltb}
@@ -14,7 +13,6 @@ use Rattle.error.specs.declared.Verdict.the-variants.{Holds, Broken}
 use Rattle.error.specs.Answer.{unless}
 use Rattle.error.specs.Verdict.{verdictOf}
 use Rattle.code.specs.Code.{promote, toRef, catchableKinds, wideTypes, arityFaults}
-use Rattle.frames.specs.declared.Frame.{Frame}
 use Rattle.inst_rules.specs.Counted.{windowIn, captureFaults, promoteFaults, dynFaults, refFaults, raiseFaults, wideFaults, outsideTry}
 
 -- ── a test ──
