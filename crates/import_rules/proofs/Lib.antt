@@ -1,0 +1,4 @@
+pub mod ImportWords
+pub mod RuleSteps
+pub mod LinkSteps
+pub mod ByNumber

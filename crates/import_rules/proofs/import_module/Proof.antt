@@ -1,0 +1,17 @@
+-- `import_rules::import_module` meets its contract.
+use borrow.Author.Needs.{needs}
+use Rattle.import_rules.proofs.ImportWords.{import-room, import-first}
+use Rattle.import_rules.proofs.import_module.Statement.{statement}
+use Rattle.import_rules.proofs.import_module.Tie as tie
+
+import-at-requires : tie.Need-import-at-requires
+import-at-requires c κs = search (needs, import-room, import-first)
+
+word-requires : tie.Need-word-requires
+word-requires c κs = search needs
+
+returns : tie.Need-returns
+returns c = search (needs, import-room, import-first)
+
+pub import-module-spec : {M : Type 1} → statement M
+import-module-spec = tie.close (tie.spec import-at-requires word-requires returns)
