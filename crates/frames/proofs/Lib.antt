@@ -1,0 +1,2 @@
+pub mod FrameSteps
+pub mod ShapeSteps
