@@ -1,16 +1,14 @@
 -- A function's parts, located and counted.
 use Prim.Native.Nat.{ℕ, _+_, _<_}
-use mathlib.Core.Path.{_≡_, refl, sym, ap, subst, _∙_}
+use mathlib.Core.Path.{_≡_, ap, subst, _∙_}
 use mathlib.Core.List.{List}
-use native.Mathlib.Omega.{arith}
 use lib.ListN.{length, getD}
 use Rattle.blocks.specs.Blocks.{words}
 use Rattle.blocks.specs.Frame.{firstWords}
-use Rattle.reader.specs.Reader.{word}
 use Rattle.reader.specs.Value.{Whole, valueOf}
 use Rattle.error.specs.declared.FuncId.{FuncId}
 use Rattle.sheet.specs.Module.{Func}
-use Rattle.sheet.specs.Decode.{valueType, argOf, handlerOf, switchOf, instOf, functionOf}
+use Rattle.sheet.specs.Decode.{functionOf}
 use Rattle.layout.specs.Opened.{moduleIn}
 use Rattle.opening.specs.declared.Opened.{Opened}
 use Rattle.opening.specs.Ready.{Ready, posAt}
@@ -19,7 +17,6 @@ use Rattle.code.specs.Callee.{noFunc, funcAt}
 use Rattle.bodies.specs.declared.Body.{Body}
 use Rattle.bodies.specs.Bodies.{Placed}
 use Rattle.bodies.specs.BodyLaws.{list-count}
-use Rattle.frames.specs.declared.Frame.{Frame}
 use Rattle.frames.specs.Frames.{funcOf, Framed}
 
 -- ── function f by its number ──

@@ -1,5 +1,5 @@
 -- The lengths of call shapes, shape by shape.
-use Prim.Native.Nat.{ℕ, suc, _+_, _*_, _≤_, _<_}
+use Prim.Native.Nat.{ℕ, _+_, _*_, _≤_, _<_}
 use mathlib.Core.Path.{_≡_, refl, sym, ap, _∙_}
 use mathlib.Core.List.{List, []}
 use native.Mathlib.Omega.{arith}
@@ -10,7 +10,6 @@ use Rattle.blocks.specs.Blocks.{words}
 use Rattle.blocks.specs.Frame.{firstWords}
 use Rattle.reader.specs.Reader.{Got, got, andThen, Reader, word, many, listOf}
 use Rattle.reader.specs.ReaderLaws.{stands-in, then-inv, word-codes}
-use Rattle.sheet.specs.Module.{Arg}
 use Rattle.sheet.specs.Decode.{argOf}
 use Rattle.sheet.specs.Encode.{encodeArg}
 use Rattle.sheet.specs.FuncCodes.{args-codes, shapes-codes}

@@ -230,24 +230,28 @@ pub fn opcode(i: Inst) -> u32
 
 pub fn slot_d(i: Inst) -> u32
     ensures { λ r. ⌜ r ≡ slotD (inst i) ⌝ }
+    ensures { λ r. ⌜ r < 256 ⌝ }
 {
     i.low / 256 % 256
 }
 
 pub fn slot_a(i: Inst) -> u32
     ensures { λ r. ⌜ r ≡ slotA (inst i) ⌝ }
+    ensures { λ r. ⌜ r < 65536 ⌝ }
 {
     i.low / 65536
 }
 
 pub fn slot_b(i: Inst) -> u32
     ensures { λ r. ⌜ r ≡ slotB (inst i) ⌝ }
+    ensures { λ r. ⌜ r < 65536 ⌝ }
 {
     i.high % 65536
 }
 
 pub fn slot_c(i: Inst) -> u32
     ensures { λ r. ⌜ r ≡ slotC (inst i) ⌝ }
+    ensures { λ r. ⌜ r < 65536 ⌝ }
 {
     i.high / 65536
 }
