@@ -1,1 +1,2 @@
-pub mod FrontSteps
+pub mod OrderSteps
+pub mod AnswerSteps

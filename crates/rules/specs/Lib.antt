@@ -1,1 +1,3 @@
-pub mod Front
+pub mod Groups
+pub mod GroupLaws
+pub mod Unlinked

@@ -1,30 +1,40 @@
-// Rules 2 to 4 in their order.
+// The rules in their order.
 ghost use mathlib.Core.Path.{_≡_};
-ghost use Prim.Native.Nat.{_+_, _*_, _≤_, _<_};
-ghost use lib.ListN.{length};
+ghost use mathlib.Core.List.{[]};
+ghost use Prim.Native.Nat.{_≤_};
 ghost use Rattle.blocks.specs.Frame.{firstWords};
-ghost use Rattle.error.specs.declared.Loaded.the-variants.{Refused};
-ghost use Rattle.error.specs.Answer.{inModule, first};
 ghost use Rattle.error.specs.Verdict.{judgedOf};
-ghost use Rattle.layout.specs.LayoutLaws.{Located};
+ghost use Rattle.reader.specs.Reader.{listOf};
+ghost use Rattle.reader.specs.Value.{Whole};
+ghost use Rattle.host.specs.Host.{hostFn};
+ghost use Rattle.host.specs.Listed.{hostsIn};
 ghost use Rattle.layout.specs.Opened.{moduleIn};
 ghost use Rattle.opening.specs.Ready.{Ready, Kept};
-ghost use Rattle.rules.specs.Front.{frontFaults, loadedOf, front};
+ghost use Rattle.types.specs.Types.{typesFaults};
+ghost use Rattle.parents.specs.Parents.{mostOnChain};
+ghost use Rattle.import_rules.specs.Links.{LinkedIf};
+ghost use Rattle.end_rules.specs.Ends.{CaptureCounts};
+ghost use Rattle.load.specs.Load.{moduleFaults};
+ghost use Rattle.rules.specs.Groups.{frontFaults, recordFaults, bodyFaults, endFaults, LinksKept};
+
+pub mod answer;
+
+use bodies::index_captures;
+use code_rules::check_codes;
 use const_rules::check_consts;
+use end_rules::check_exports;
+use end_rules::check_start;
 use error::Judged;
-use error::LoadError;
-use error::LoadErrorKind;
-use error::Loaded;
-use layout::Checked;
-use layout::Layout;
-use load::is_long_enough;
+use func_rules::check_funcs;
+use global_rules::check_globals;
+use hook_rules::check_hooks;
+use import_rules::check_imports;
 use opening::Opened;
-use opening::open_sheet;
 use parent_rules::check_parents;
 use type_rules::check_types;
 
 // Types, parents with at most 256 on a chain, constants at most 64 deep; the first fault.
-pub fn check_front(sheet: &[u8], work: &mut [u32], o: Opened) -> Judged
+fn check_front(sheet: &[u8], work: &mut [u32], o: Opened) -> Judged
     requires { ⌜ Ready (firstWords (now sheet) (o .layout .words)) (now work) o ⌝ }
     ensures { λ r. ⌜ r ≡ judgedOf (frontFaults (moduleIn (firstWords (now (sheet .entry)) (o .layout .words)))) ⌝ }
     ensures { λ r. ⌜ Kept o (now (work .entry)) (now (work .exit)) ⌝ }
@@ -44,47 +54,88 @@ pub fn check_front(sheet: &[u8], work: &mut [u32], o: Opened) -> Judged
     check_consts(sheet, work, o, 64)
 }
 
-// The answer of a program that writes no table.
-fn answer(j: Judged) -> Loaded
-    ensures { λ r. ⌜ r ≡ loadedOf j ⌝ }
+// Imports with their places in the host list, globals, every function's record.
+fn check_records(sheet: &[u8], work: &mut [u32], o: Opened, hosts: &[u8], n: usize) -> Judged
+    requires { ⌜ Ready (firstWords (now sheet) (o .layout .words)) (now work) o ⌝ }
+    requires { ⌜ typesFaults (moduleIn (firstWords (now sheet) (o .layout .words))) ≡ [] ⌝ }
+    requires { ⌜ Whole (listOf hostFn (firstWords (now hosts) n) 2) ⌝ }
+    ensures { λ r. ⌜ r ≡ judgedOf (recordFaults (hostsIn (firstWords (now (hosts .entry)) n)) (moduleIn (firstWords (now (sheet .entry)) (o .layout .words)))) ⌝ }
+    ensures { λ r. ⌜ Kept o (now (work .entry)) (now (work .exit)) ⌝ }
+    ensures { λ r. ⌜ LinkedIf r (hostsIn (firstWords (now (hosts .entry)) n)) (firstWords (now (sheet .entry)) (o .layout .words)) (now (work .exit)) o ⌝ }
 {
-    match j {
-        Judged::Passed => Loaded::Accepted(0),
-        Judged::Refused(e) => Loaded::Refused(e),
-    }
-}
-
-fn refuse(k: LoadErrorKind) -> Loaded
-    ensures { λ r. ⌜ r ≡ Refused (inModule k) ⌝ }
-{
-    Loaded::Refused(LoadError {
-        kind: k,
-        func: 0,
-        pc: 0,
-    })
-}
-
-fn judge_intact(sheet: &[u8], l: Layout, work: &mut [u32]) -> Loaded
-    requires { ⌜ Located (firstWords (now sheet) (l .words)) (moduleIn (firstWords (now sheet) (l .words))) l ⌝ }
-    requires { ⌜ l .words < 4294967296 ⌝ }
-    requires { ⌜ 64 + 8 * l .words ≤ length (now work) ⌝ }
-    ensures { λ r. ⌜ r ≡ first 0 (frontFaults (moduleIn (firstWords (now (sheet .entry)) (l .words)))) ⌝ }
-{
-    let o = open_sheet(sheet, l, work);
-    answer(check_front(sheet, work, o))
-}
-
-// The answer to any sheet: 1, 24, or the first fault of rules 2 to 4.
-pub fn judge_front(sheet: &[u8], work: &mut [u32]) -> Loaded
-    ensures { λ r. ⌜ r ≡ front (now (sheet .entry)) (length (now (work .entry))) ⌝ }
-{
-    match layout::check_sheet(sheet) {
-        Checked::Broken => refuse(LoadErrorKind::Decode),
-        Checked::Intact(l) => {
-            if is_long_enough(l.words, work.len(), work.len()) {
-                return judge_intact(sheet, l, work);
-            }
-            refuse(LoadErrorKind::ShortSlice)
+    match check_imports(sheet, work, o, hosts, n) {
+        Judged::Passed => {}
+        Judged::Refused(e) => {
+            return Judged::Refused(e);
         }
     }
+    match check_globals(sheet, o) {
+        Judged::Passed => {}
+        Judged::Refused(e) => {
+            return Judged::Refused(e);
+        }
+    }
+    check_funcs(sheet, work, o)
+}
+
+// Every hook, start, exports.
+fn check_ends(sheet: &[u8], work: &[u32], o: Opened) -> Judged
+    requires { ⌜ Ready (firstWords (now sheet) (o .layout .words)) (now work) o ⌝ }
+    requires { ⌜ CaptureCounts (firstWords (now sheet) (o .layout .words)) (now work) o ⌝ }
+    ensures { λ r. ⌜ r ≡ judgedOf (endFaults (moduleIn (firstWords (now (sheet .entry)) (o .layout .words)))) ⌝ }
+{
+    match check_hooks(sheet, work, o) {
+        Judged::Passed => {}
+        Judged::Refused(e) => {
+            return Judged::Refused(e);
+        }
+    }
+    match check_start(sheet, work, o) {
+        Judged::Passed => {}
+        Judged::Refused(e) => {
+            return Judged::Refused(e);
+        }
+    }
+    check_exports(sheet, o)
+}
+
+// Every function's code, then what comes after it.
+fn check_bodies(sheet: &[u8], work: &mut [u32], o: Opened) -> Judged
+    requires { ⌜ Ready (firstWords (now sheet) (o .layout .words)) (now work) o ⌝ }
+    requires { ⌜ o .layout .words ≤ 520192 ⌝ }
+    ensures { λ r. ⌜ r ≡ judgedOf (bodyFaults (moduleIn (firstWords (now (sheet .entry)) (o .layout .words)))) ⌝ }
+    ensures { λ r. ⌜ LinksKept o (now (work .entry)) (now (work .exit)) ⌝ }
+{
+    index_captures(sheet, work, o);
+    match check_codes(sheet, work, o) {
+        Judged::Passed => {}
+        Judged::Refused(e) => {
+            return Judged::Refused(e);
+        }
+    }
+    check_ends(sheet, work, o)
+}
+
+// All rules; where they hold, work has the place of each import in the host list.
+pub fn check_module(sheet: &[u8], work: &mut [u32], o: Opened, hosts: &[u8], n: usize) -> Judged
+    requires { ⌜ Ready (firstWords (now sheet) (o .layout .words)) (now work) o ⌝ }
+    requires { ⌜ o .layout .words ≤ 520192 ⌝ }
+    requires { ⌜ Whole (listOf hostFn (firstWords (now hosts) n) 2) ⌝ }
+    ensures { λ r. ⌜ r ≡ judgedOf (moduleFaults mostOnChain (hostsIn (firstWords (now (hosts .entry)) n)) (moduleIn (firstWords (now (sheet .entry)) (o .layout .words)))) ⌝ }
+    ensures { λ r. ⌜ Ready (firstWords (now (sheet .entry)) (o .layout .words)) (now (work .exit)) o ⌝ }
+    ensures { λ r. ⌜ LinkedIf r (hostsIn (firstWords (now (hosts .entry)) n)) (firstWords (now (sheet .entry)) (o .layout .words)) (now (work .exit)) o ⌝ }
+{
+    match check_front(sheet, work, o) {
+        Judged::Passed => {}
+        Judged::Refused(e) => {
+            return Judged::Refused(e);
+        }
+    }
+    match check_records(sheet, work, o, hosts, n) {
+        Judged::Passed => {}
+        Judged::Refused(e) => {
+            return Judged::Refused(e);
+        }
+    }
+    check_bodies(sheet, work, o)
 }

@@ -1,47 +1,51 @@
--- `rules::check_front` meets its contract.
 use borrow.Author.Needs.{needs}
-use Rattle.rules.proofs.FrontSteps.{in-order}
 use Rattle.rules.proofs.check_front.Statement.{statement}
 use Rattle.rules.proofs.check_front.Tie as tie
+use Rattle.rules.proofs.check_front.Reads as reads
+use Rattle.rules.proofs.check_front.Lts as lts
+use Rattle.const_rules.proofs.check_consts.Reads as check-consts-reads
+use Rattle.parent_rules.proofs.check_parents.Reads as check-parents-reads
+use Rattle.type_rules.proofs.check_types.Reads as check-types-reads
+use Rattle.rules.proofs.OrderSteps.{front-order}
 
 check-types-requires : tie.Need-check-types-requires
-check-types-requires c κs = search needs
+check-types-requires c κs = search (needs, front-order)
 
 enum-told : tie.Need-enum-told
-enum-told c = search needs
+enum-told c = search (needs, front-order)
 
 enum-known-e : tie.Need-enum-known-e
-enum-known-e c = search needs
+enum-known-e c = search (needs, front-order)
 
 same-length : tie.Need-same-length
-same-length c = search needs
+same-length c = search (needs, front-order)
 
 returns : tie.Need-returns
-returns c = search (needs, in-order)
+returns c = search (needs, front-order)
 
 check-parents-requires : tie.Need-check-parents-requires
-check-parents-requires c κs = search needs
+check-parents-requires c κs = search (needs, front-order)
 
 enum-told-2 : tie.Need-enum-told-2
-enum-told-2 c = search needs
+enum-told-2 c = search (needs, front-order)
 
 enum-known-e-2 : tie.Need-enum-known-e-2
-enum-known-e-2 c = search needs
+enum-known-e-2 c = search (needs, front-order)
 
 same-length-2 : tie.Need-same-length-2
-same-length-2 c = search needs
+same-length-2 c = search (needs, front-order)
 
 returns-2 : tie.Need-returns-2
-returns-2 c = search (needs, in-order)
+returns-2 c = search (needs, front-order)
 
 check-consts-requires : tie.Need-check-consts-requires
-check-consts-requires c κs = search needs
+check-consts-requires c κs = search (needs, front-order)
 
 same-length-3 : tie.Need-same-length-3
-same-length-3 c = search needs
+same-length-3 c = search (needs, front-order)
 
 returns-3 : tie.Need-returns-3
-returns-3 c = search (needs, in-order)
+returns-3 c = search (needs, front-order)
 
 pub check-front-spec : {M : Type 1} → statement M
 check-front-spec =

@@ -1,0 +1,39 @@
+use borrow.Author.Needs.{needs}
+use Rattle.rules.proofs.answer.judge_intact.Statement.{statement}
+use Rattle.rules.proofs.answer.judge_intact.Tie as tie
+use Rattle.rules.proofs.answer.judge_intact.Reads as reads
+use Rattle.rules.proofs.answer.judge_intact.Lts as lts
+use Rattle.opening.proofs.open_sheet.Reads as open-sheet-reads
+use Rattle.region.proofs.fill.Reads as fill-reads
+use Rattle.rules.proofs.answer.answer.Reads as answer-reads
+use Rattle.rules.proofs.check_module.Reads as check-module-reads
+use Rattle.rules.proofs.AnswerSteps.{opened-ready, opened-few, opened-first, filled-zero}
+
+open-sheet-requires : tie.Need-open-sheet-requires
+open-sheet-requires c κs = search (needs, opened-ready, opened-few, opened-first, filled-zero)
+
+check-module-requires : tie.Need-check-module-requires
+check-module-requires c κs = (opened-ready _ _ _ _ (c .before .before .before .open-sheet .ensures), (opened-few _ _ _ _ (c .before .before .before .open-sheet .ensures) (c .before .before .before .before .before .before .before .before .pre .1 .0), c .before .before .before .before .before .before .before .before .pre .1 .1 .1))
+
+fill-requires : tie.Need-fill-requires
+fill-requires c κs = search (needs, opened-ready, opened-few, opened-first, filled-zero)
+
+answer-requires : tie.Need-answer-requires
+answer-requires c κs = search (needs, opened-ready, opened-few, opened-first, filled-zero)
+
+same-length : tie.Need-same-length
+same-length c = search (needs, opened-ready, opened-few, opened-first, filled-zero)
+
+returns : tie.Need-returns
+returns c = (opened-first _ _ _ _ (c .before .before .before .before .before .before .before .before .before .before .before .open-sheet .ensures) _ (c .before .before .before .before .before .before .before .check-module .ensures .0) (c .answer .ensures), filled-zero _ _ _ _ (c .before .before .before .fill .ensures .0) (c .before .before .before .fill .ensures .1) (search needs) (search needs))
+
+pub judge-intact-spec : {M : Type 1} → statement M
+judge-intact-spec =
+    tie.close
+    (tie.spec
+    open-sheet-requires
+    check-module-requires
+    fill-requires
+    answer-requires
+    same-length
+    returns)

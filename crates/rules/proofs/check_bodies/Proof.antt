@@ -1,0 +1,50 @@
+use borrow.Author.Needs.{needs}
+use Rattle.rules.proofs.check_bodies.Statement.{statement}
+use Rattle.rules.proofs.check_bodies.Tie as tie
+use Rattle.rules.proofs.check_bodies.Reads as reads
+use Rattle.rules.proofs.check_bodies.Lts as lts
+use Rattle.bodies.proofs.index_captures.Reads as index-captures-reads
+use Rattle.code_rules.proofs.check_codes.Reads as check-codes-reads
+use Rattle.rules.proofs.check_ends.Reads as check-ends-reads
+use Rattle.rules.proofs.OrderSteps.{body-order}
+
+index-captures-requires : tie.Need-index-captures-requires
+index-captures-requires c κs = search (needs, body-order)
+
+check-codes-requires : tie.Need-check-codes-requires
+check-codes-requires c κs = search (needs, body-order)
+
+enum-told : tie.Need-enum-told
+enum-told c = search (needs, body-order)
+
+enum-known-e : tie.Need-enum-known-e
+enum-known-e c = search (needs, body-order)
+
+same-length : tie.Need-same-length
+same-length c = search (needs, body-order)
+
+returns : tie.Need-returns
+returns c = search (needs, body-order)
+
+check-ends-requires : tie.Need-check-ends-requires
+check-ends-requires c κs = search (needs, body-order)
+
+same-length-2 : tie.Need-same-length-2
+same-length-2 c = search (needs, body-order)
+
+returns-2 : tie.Need-returns-2
+returns-2 c = search (needs, body-order)
+
+pub check-bodies-spec : {M : Type 1} → statement M
+check-bodies-spec =
+    tie.close
+    (tie.spec
+    index-captures-requires
+    check-codes-requires
+    enum-told
+    enum-known-e
+    same-length
+    returns
+    check-ends-requires
+    same-length-2
+    returns-2)

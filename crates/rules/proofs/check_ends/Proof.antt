@@ -1,0 +1,54 @@
+use borrow.Author.Needs.{needs}
+use Rattle.rules.proofs.check_ends.Statement.{statement}
+use Rattle.rules.proofs.check_ends.Tie as tie
+use Rattle.rules.proofs.check_ends.Reads as reads
+use Rattle.rules.proofs.check_ends.Lts as lts
+use Rattle.end_rules.proofs.check_exports.Reads as check-exports-reads
+use Rattle.end_rules.proofs.check_start.Reads as check-start-reads
+use Rattle.hook_rules.proofs.check_hooks.Reads as check-hooks-reads
+use Rattle.rules.proofs.OrderSteps.{end-order}
+
+check-hooks-requires : tie.Need-check-hooks-requires
+check-hooks-requires c κs = search (needs, end-order)
+
+enum-told : tie.Need-enum-told
+enum-told c = search (needs, end-order)
+
+enum-known-e : tie.Need-enum-known-e
+enum-known-e c = search (needs, end-order)
+
+returns : tie.Need-returns
+returns c = search (needs, end-order)
+
+check-start-requires : tie.Need-check-start-requires
+check-start-requires c κs = search (needs, end-order)
+
+enum-told-2 : tie.Need-enum-told-2
+enum-told-2 c = search (needs, end-order)
+
+enum-known-e-2 : tie.Need-enum-known-e-2
+enum-known-e-2 c = search (needs, end-order)
+
+returns-2 : tie.Need-returns-2
+returns-2 c = search (needs, end-order)
+
+check-exports-requires : tie.Need-check-exports-requires
+check-exports-requires c κs = search (needs, end-order)
+
+returns-3 : tie.Need-returns-3
+returns-3 c = search (needs, end-order)
+
+pub check-ends-spec : {M : Type 1} → statement M
+check-ends-spec =
+    tie.close
+    (tie.spec
+    check-hooks-requires
+    enum-told
+    enum-known-e
+    returns
+    check-start-requires
+    enum-told-2
+    enum-known-e-2
+    returns-2
+    check-exports-requires
+    returns-3)

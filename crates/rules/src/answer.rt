@@ -1,0 +1,72 @@
+// The answer to any bytes, with no table written.
+ghost use mathlib.Core.Path.{_≡_};
+ghost use Prim.Native.Nat.{_+_, _*_, _≤_};
+ghost use lib.ListN.{length};
+ghost use Rattle.blocks.specs.Frame.{firstWords};
+ghost use Rattle.error.specs.declared.Loaded.the-variants.{Refused};
+ghost use Rattle.error.specs.Answer.{inModule, first};
+ghost use Rattle.reader.specs.Reader.{listOf};
+ghost use Rattle.reader.specs.Value.{Whole};
+ghost use Rattle.host.specs.Host.{hostFn};
+ghost use Rattle.host.specs.Listed.{hostsIn};
+ghost use Rattle.layout.specs.LayoutLaws.{Located};
+ghost use Rattle.layout.specs.Opened.{moduleIn};
+ghost use Rattle.parents.specs.Parents.{mostOnChain};
+ghost use Rattle.load.specs.Load.{moduleFaults, load, workAfter};
+ghost use Rattle.rules.specs.Unlinked.{unlinked, loadedOf, Zeroed};
+use crate::check_module;
+use error::Judged;
+use error::LoadError;
+use error::LoadErrorKind;
+use error::Loaded;
+use inputs::Inputs;
+use inputs::check_inputs;
+use layout::Layout;
+use opening::open_sheet;
+use region::fill;
+
+// What was judged, as an answer.
+fn answer(j: Judged) -> Loaded
+    ensures { λ r. ⌜ r ≡ loadedOf j ⌝ }
+{
+    match j {
+        Judged::Passed => Loaded::Accepted(0),
+        Judged::Refused(e) => Loaded::Refused(e),
+    }
+}
+
+fn refuse(k: LoadErrorKind) -> Loaded
+    ensures { λ r. ⌜ r ≡ Refused (inModule k) ⌝ }
+{
+    Loaded::Refused(LoadError {
+        kind: k,
+        func: 0,
+        pc: 0,
+    })
+}
+
+// Work is zero after the rules.
+fn judge_intact(sheet: &[u8], l: Layout, hosts: &[u8], n: usize, work: &mut [u32]) -> Loaded
+    requires { ⌜ Located (firstWords (now sheet) (l .words)) (moduleIn (firstWords (now sheet) (l .words))) l ⌝ }
+    requires { ⌜ l .words ≤ 520192 ⌝ }
+    requires { ⌜ 64 + 8 * l .words ≤ length (now work) ⌝ }
+    requires { ⌜ Whole (listOf hostFn (firstWords (now hosts) n) 2) ⌝ }
+    ensures { λ r. ⌜ r ≡ first 0 (moduleFaults mostOnChain (hostsIn (firstWords (now (hosts .entry)) n)) (moduleIn (firstWords (now (sheet .entry)) (l .words)))) ⌝ }
+    ensures { λ r. ⌜ Zeroed (now (work .entry)) (now (work .exit)) ⌝ }
+{
+    let o = open_sheet(sheet, l, work);
+    let j = check_module(sheet, work, o, hosts, n);
+    fill(work, 0, work.len(), 0);
+    answer(j)
+}
+
+// The answer of load to any sheet and host list, with no table: as if table and work were of one length.
+pub fn judge(sheet: &[u8], hosts: &[u8], work: &mut [u32]) -> Loaded
+    ensures { λ r. ⌜ r ≡ unlinked (load (now (sheet .entry)) (now (hosts .entry)) (length (now (work .entry))) (length (now (work .entry)))) ⌝ }
+    ensures { λ r. ⌜ now (work .exit) ≡ workAfter (now (sheet .entry)) (now (hosts .entry)) (now (work .entry)) (now (work .entry)) ⌝ }
+{
+    match check_inputs(sheet, hosts, work.len(), work.len()) {
+        Inputs::Refused(k) => refuse(k),
+        Inputs::Intact(l, n) => judge_intact(sheet, l, hosts, n, work),
+    }
+}
