@@ -43,10 +43,10 @@ fn check_registers(sheet: &[u8], o: Opened, c: Frame) -> Verdict
             return Verdict::Broken(k);
         }
     }
-    if 65536 < c.regs {
-        return Verdict::Broken(LoadErrorKind::OutOfRange(What::Registers, c.regs));
+    if c.regs <= 65536 {
+        return Verdict::Holds;
     }
-    Verdict::Holds
+    Verdict::Broken(LoadErrorKind::OutOfRange(What::Registers, c.regs))
 }
 
 // The signature's parameters are the first registers, and fit the parameter list.
@@ -144,7 +144,7 @@ fn check_func(sheet: &[u8], work: &mut [u32], o: Opened, f: FuncId) -> Verdict
     check_lists(sheet, work, o, c)
 }
 
-// Functions by number, where the types hold. The marks are all zero again.
+// Functions by number. Rule 2 held: the parameters of a signature are types that are there.
 pub fn check_funcs(sheet: &[u8], work: &mut [u32], o: Opened) -> Judged
     requires { ⌜ Ready (firstWords (now sheet) (o .layout .words)) (now work) o ⌝ }
     requires { ⌜ typesFaults (moduleIn (firstWords (now sheet) (o .layout .words))) ≡ [] ⌝ }
