@@ -1,6 +1,6 @@
 -- Two lists of value types, compared member by member.
-use Prim.Native.Nat.{ℕ, suc, _+_, _*_, _≤_, _<_}
-use mathlib.Core.Path.{_≡_, refl, sym, ap, subst, _∙_}
+use Prim.Native.Nat.{ℕ, suc, _+_, _≤_, _<_}
+use mathlib.Core.Path.{_≡_, refl, sym, ap, _∙_}
 use mathlib.Core.List.{List, [], map}
 use mathlib.Core.Bool.{true, false}
 use native.Mathlib.Omega.{arith}
@@ -8,6 +8,7 @@ use native.Mathlib.Numerals.{add-one}
 use lib.ListN.{length, getD, take, drop, length-map, length-take}
 use Rattle.lists.specs.Lists.{all, concatMap, isFront}
 use Rattle.lists.specs.ListLaws.{length-concatMap, map-at}
+use Rattle.lists.specs.FrontLaws.{front-long, front-next, front-differs, front-end}
 use Rattle.blocks.specs.Blocks.{words}
 use Rattle.blocks.specs.Frame.{firstWords}
 use Rattle.blocks.specs.FirstWords.{firstWords-at}
@@ -26,7 +27,6 @@ use Rattle.canon.specs.Canon.{canonWord}
 use Rattle.types.specs.Types.{valueFaults}
 use Rattle.funcs.specs.Funcs.{paramsFirst}
 use Rattle.judging.specs.Judging.{listFaults}
-use Rattle.param_registers.proofs.FrontLaws.{front-long, front-next, front-differs, front-end}
 use Rattle.param_registers.proofs.CanonSteps.{value-within}
 
 -- ── member i of a list, each a word ──

@@ -1,3 +1,2 @@
-pub mod FrontLaws
 pub mod CanonSteps
 pub mod FrontSteps
