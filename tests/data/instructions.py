@@ -26,7 +26,7 @@ TARGETS, TABLES, CONSTANTS, GLOBALS, IMPORTS = (TARGET, 4), (TABLE, 1), (CONSTAN
 NAMES, OWN_CAPTURES, SHAPES = (NAME, 9), (CAPTURE, 10), (SHAPE, 11)
 WIDTH = dict(a=65535, b=65535, c=65535, w=MOST)
 
-# by code: its name, its fields in order, and what a use needs besides the last of each field; other bits are set if they are unread
+# by code: its name, its fields in order, and what a use has besides the last of each field; bits that are not read are all set
 OPS = [
     ('unreachable', {}, dict(a=65535, d=255, w=MOST)),
     ('ret-void', {}, dict(a=65535, d=255, w=MOST)),
@@ -67,7 +67,7 @@ OPS = [
 CODE = {name: code for code, (name, _, _) in enumerate(OPS)}
 ENDS = {0, 1, 2, 3, 4, 6, 7, 8}
 # D that breaks the rule of its own, or the window
-BREAKS = {7: 255, 8: 255, 9: 3, 15: 255, 16: 255, 17: 255, 18: 255, 19: 255, 20: 255, 21: 255, 28: 255, 30: 13, 31: 255, 32: 0, 33: 0}
+BREAKS = {7: 255, 8: 255, 9: 3, 10: 3, 15: 255, 16: 255, 17: 255, 18: 255, 19: 255, 20: 255, 21: 255, 28: 255, 30: 13, 31: 255, 32: 0, 33: 0}
 
 # the instruction at position 2, or at the end if it terminates
 def used(name, expected, code, **slots):
@@ -91,7 +91,6 @@ for name, word in (('jmp', TARGET), ('switch', TABLE), ('call', FUNCTION), ('loa
     used(name + '-w-65536', word + [65536], CODE[name], w=65536)
 used('ret-a-65535', REGISTER + [65535], CODE['ret'], a=65535)
 used('str-slice-c-65535', REGISTER + [65535], CODE['str-slice'], c=65535)
-used('jmp-to-itself', HOLDS, CODE['jmp'], w=3)
 
 # ── windows from A + 1, from A, from B, from C ──
 for name in ('call-indirect', 'd-call', 'coro-new-indirect', 'spawn'):
@@ -163,7 +162,8 @@ for a, kind in ((1, 'i64'), (3, 'str'), (4, 'a-cell-of-dyn')):
 
 # ── types of the right kind: type refs 0 to 6 are a func, a struct, an array, a map, a cell, an iter, a coroutine ──
 KINDS = ['func', 'struct', 'array', 'map', 'cell', 'iter', 'coroutine']
-for name, wrong, others in (('struct', STRUCT_KIND, (0, 2, 6)), ('array', ARRAY_KIND, (1, 3)), ('map', MAP_KIND, (2, 4, 5)), ('cell', CELL_KIND, (1, 3))):
+for name, wrong, others in (('struct', STRUCT_KIND, (0, 2, 3, 4, 6)), ('array', ARRAY_KIND, (1, 3, 4)), ('map', MAP_KIND, (1, 2, 4, 5)),
+                            ('cell', CELL_KIND, (1, 2, 3))):
     for b in others:
         used(f'new-{name}-of-{KINDS[b]}', wrong, CODE['new-' + name], b=b)
 
