@@ -1,186 +1,21 @@
 #!/usr/bin/env python3
-"""Writes what the program `judge` is run on: its sheets (data/), its arguments, and what it must print, each case by what it is meant to be.
+"""Writes what the program `judge` is run on: its sheets and its host list (data/), its arguments, and what it must print, each case by what it is meant to be.
 
-A case is the parts of a sheet and the first of its six numbers, the rest being 0; written here from paper 01 alone.
+A case is the parts of a sheet and its six numbers, those not given being 0; written from paper 01 alone, one file for each group of rules.
+The program prints 0 for the length of an accepted sheet. It takes at most 16 blocks.
 """
-from sheets import func, listed, parts, sheet, write
+import code, ends, front, instructions, records
+from answers import BROKEN, HOLDS, collection, line
+from sheets import COROUTINE, array, host_list, ref, write
 
-I8, I16, DYN = 1, 2, 12
-MOST = 4294967295
-
-def ref(t):
-    return 16 + t
-
-def fn(params=(), results=()):
-    return [0] + listed(*[[p] for p in params]) + listed(*[[r] for r in results])
-
-def struct(fields=(), parent=None, methods=(), name=0):
-    return [1, name, 0 if parent is None else parent + 1] + listed(*map(list, fields)) + listed(*map(list, methods))
-
-def array(v):
-    return [2, v]
-
-def map_(k, v):
-    return [3, k, v]
-
-def cell(v):
-    return [4, v]
-
-def iter_(k, v):
-    return [5, k, v]
-
-COROUTINE = [6]
-PLAIN = [0, 0, 0]
-
-def text(s):
-    return [1, s]
-
-def items(*children):
-    return [2] + listed(*[[c] for c in children])
-
-def entries(*pairs):
-    return [3] + listed(*map(list, pairs))
-
-CASES = []
-def case(name, expected, **p):
-    numbers = list(expected) + [0] * (6 - len(expected))
-    CASES.append((name, sheet(parts(**p)), ' '.join(map(str, numbers))))
-
-HOLDS, TYPE, FUNCTION, STRING = [0], [3, 1], [3, 2], [3, 3]
-SIGNATURE, PARENT, DEEP, CONSTANT = [4], [16], [17], [18]
-
-# rule 1's layout, and what no rule up to 4 looks at
+CASES, case = collection()
 case('empty', HOLDS)
-CASES.append(('no-bytes', b'', '1 0 0 0 0 0'))
-CASES.append(('type-kind-7', sheet(parts(types=[[7], array(ref(9))])), '1 0 0 0 0 0'))
-case('import-not-judged', HOLDS, imports=[[7, 8, 9, 0]])
-case('function-not-judged', HOLDS, funcs=[func(sig=9, code=[])])
-
-# ── rule 2: types in order ──
-case('func-of-dyn', HOLDS, types=[fn([DYN, I8], [DYN])])
-case('func-two-results', SIGNATURE, types=[fn([], [I8, I8])])
-case('func-two-results-before-param', SIGNATURE, types=[fn([ref(9)], [I8, I8])])
-case('func-two-results-before-results', SIGNATURE, types=[fn([], [ref(9), ref(9)])])
-case('func-param', TYPE + [7], types=[fn([ref(7)])])
-case('func-second-param', TYPE + [7], types=[fn([I8, ref(7)])])
-case('func-first-of-params', TYPE + [8], types=[fn([ref(8), ref(7)])])
-case('func-result', TYPE + [7], types=[fn([I8], [ref(7)])])
-case('func-param-before-result', TYPE + [8], types=[fn([ref(8)], [ref(7)])])
-case('array-item', TYPE + [1], types=[array(ref(1))])
-case('array-of-itself', HOLDS, types=[array(ref(0))])
-case('array-of-the-last', HOLDS, types=[array(ref(1)), COROUTINE])
-case('array-reference-most', TYPE + [MOST - 16], types=[array(MOST)])
-case('map-key', TYPE + [5], types=[map_(ref(5), I8)])
-case('map-value', TYPE + [6], types=[map_(I8, ref(6))])
-case('map-key-before-value', TYPE + [6], types=[map_(ref(6), ref(5))])
-case('cell-item', TYPE + [4], types=[cell(ref(4))])
-case('iter-key', TYPE + [5], types=[iter_(ref(5), I8)])
-case('iter-value', TYPE + [6], types=[iter_(I8, ref(6))])
-case('iter-key-before-value', TYPE + [6], types=[iter_(ref(6), ref(5))])
-case('types-in-order', TYPE + [9], types=[COROUTINE, array(ref(9)), array(ref(8))])
-case('types-in-order-kinds', SIGNATURE, types=[fn([], [I8, I8]), array(ref(9))])
-case('types-in-order-kinds-swapped', TYPE + [9], types=[array(ref(9)), fn([], [I8, I8])])
-
-A = dict(strings=['a'])
-CALLED = dict(strings=['a'], funcs=[func()])
-SIG = fn()
-case('struct', HOLDS, types=[SIG, struct([(0, I8), (0, ref(1))], methods=[(0, 0)])], **CALLED)
-case('struct-field-type', TYPE + [9], types=[struct([(0, ref(9))])], **A)
-case('struct-second-field-type', TYPE + [9], types=[struct([(0, I8), (0, ref(9))])], **A)
-case('struct-field-name', STRING + [1], types=[struct([(1, I8)])], **A)
-case('struct-field-name-most', STRING + [MOST], types=[struct([(0, I8), (MOST, I8)])], **A)
-case('struct-field-type-before-names', TYPE + [9], types=[struct([(7, I8), (0, ref(9))])], **A)
-case('struct-field-name-before-methods', STRING + [7], types=[SIG, struct([(7, I8)], methods=[(0, 5)])], **CALLED)
-case('struct-method-function', FUNCTION + [1], types=[SIG, struct(methods=[(0, 1)])], **CALLED)
-case('struct-method-name', STRING + [8], types=[SIG, struct(methods=[(8, 0)])], **CALLED)
-case('struct-method-function-before-name', FUNCTION + [5], types=[SIG, struct(methods=[(8, 5)])], **CALLED)
-case('struct-methods-one-by-one', STRING + [8], types=[SIG, struct(methods=[(8, 0), (0, 5)])], **CALLED)
-case('struct-second-method', FUNCTION + [5], types=[SIG, struct(methods=[(0, 0), (0, 5)])], **CALLED)
-case('struct-name', STRING + [9], types=[struct(name=9)], **A)
-case('struct-methods-before-name', FUNCTION + [5], types=[SIG, struct(methods=[(0, 5)], name=9)], **CALLED)
-case('struct-method-name-before-name', STRING + [8], types=[SIG, struct(methods=[(8, 0)], name=9)], **CALLED)
-case('struct-field-name-before-name', STRING + [8], types=[struct([(8, I8)], name=9)], **A)
-case('struct-function-is-no-type', FUNCTION + [1], types=[SIG, SIG, struct(methods=[(0, 1)])], **CALLED)
-
-# ── rule 3: parents, per type ──
-case('types-before-parents', TYPE + [9], types=[struct(parent=9), array(ref(9))], **A)
-case('types-before-self-parent', TYPE + [9], types=[struct(parent=0), array(ref(9))], **A)
-case('parent', HOLDS, types=[struct([(0, I8)]), struct([(0, I8), (0, I16)], 0)], **A)
-case('parent-of-equal-fields', HOLDS, types=[struct([(0, I8)], 1), struct([(0, I8)])], **A)
-case('parent-without-fields', HOLDS, types=[struct(), struct([(0, I8)], 0)], **A)
-case('parent-methods-are-its-own', HOLDS, types=[SIG, struct(methods=[(0, 0)]), struct(parent=1)], **CALLED)
-case('parent-absent', PARENT, types=[struct(parent=1)], **A)
-case('parent-absent-most', PARENT, types=[struct(parent=MOST - 1)], **A)
-for name, other in (('func', SIG), ('array', array(I8)), ('map', map_(I8, I8)), ('cell', cell(I8)), ('iter', iter_(I8, I8)), ('coroutine', COROUTINE)):
-    case('parent-is-' + name, PARENT, types=[other, struct(parent=0)], **A)
-AB = dict(strings=['a', 'b'])
-case('prefix-name', PARENT, types=[struct([(0, I8)]), struct([(1, I8)], 0)], **AB)
-case('prefix-type', PARENT, types=[struct([(0, I8)]), struct([(0, I16)], 0)], **AB)
-case('prefix-second-name', PARENT, types=[struct([(0, I8), (0, I8)]), struct([(0, I8), (1, I8)], 0)], **AB)
-case('prefix-second-type', PARENT, types=[struct([(0, I8), (0, I8)]), struct([(0, I8), (0, I16), (0, I8)], 0)], **AB)
-case('prefix-longer-than-child', PARENT, types=[struct([(0, I8), (1, I8)]), struct([(0, I8)], 0)], **AB)
-case('prefix-moved', PARENT, types=[struct([(0, I8)]), struct([(1, I8), (0, I8)], 0)], **AB)
-case('prefix-equal-text-another-number', PARENT, types=[struct([(0, I8)]), struct([(1, I8)], 0)], strings=['a', 'a'])
-case('prefix-equal-type-another-number', PARENT, types=[COROUTINE, COROUTINE, struct([(0, ref(0))]), struct([(0, ref(1))], 2)], **A)
-case('self-parent', DEEP, types=[struct(parent=0)], **A)
-case('self-parent-with-fields', DEEP, types=[struct([(0, I8)], 0)], **A)
-case('cycle-of-two', DEEP, types=[struct(parent=1), struct(parent=0)], **A)
-case('cycle-first-breaks-no-prefix', DEEP, types=[struct([(0, I8)], 1), struct(parent=0)], **A)
-case('cycle-first-breaks-the-prefix', PARENT, types=[struct(parent=1), struct([(0, I8)], 0)], **A)
-case('parents-in-order', PARENT, types=[struct(parent=9), struct(parent=1)], **A)
-case('parents-in-order-swapped', DEEP, types=[struct(parent=0), struct(parent=9)], **A)
-
-# n structs on a chain, each the child of the next but the last, whose parent is given; and in the other order
-def lowest_first(n, top=None):
-    return [struct(parent=t + 1) for t in range(n - 1)] + [struct(parent=top)]
-
-def topmost_first(n, top=None):
-    return [struct(parent=top)] + [struct(parent=t) for t in range(n - 1)]
-
-for name, chain in (('lowest-first', lowest_first), ('topmost-first', topmost_first)):
-    case('chain-256-' + name, HOLDS, types=chain(256), **A)
-    case('chain-257-' + name, DEEP, types=chain(257), **A)
-    case('chain-255-below-absent-' + name, PARENT, types=chain(255, 300), **A)
-    case('chain-255-below-a-coroutine-' + name, PARENT, types=chain(255, 255) + [COROUTINE], **A)
-case('chain-256-below-absent-lowest-first', DEEP, types=lowest_first(256, 300), **A)
-case('chain-256-below-absent-topmost-first', PARENT, types=topmost_first(256, 300), **A)
-case('chain-256-below-a-coroutine-lowest-first', DEEP, types=lowest_first(256, 256) + [COROUTINE], **A)
-case('chain-256-below-a-coroutine-topmost-first', PARENT, types=topmost_first(256, 256) + [COROUTINE], **A)
-case('two-chains-of-180', HOLDS, types=[struct(parent=t - 1 if t % 180 else None) for t in range(360)], **A)
-
-# ── rule 4: constants in order ──
-case('parents-before-constants', DEEP, types=[struct(parent=0)], consts=[text(9)], **A)
-case('types-before-constants', TYPE + [9], types=[array(ref(9))], consts=[text(9)], **A)
-case('constants', HOLDS, consts=[PLAIN, [0, MOST, MOST], text(0), items(0, 1, 2, 2), entries((3, 0), (3, 3))], **A)
-case('string', STRING + [1], consts=[PLAIN, text(1)], **A)
-case('string-most', STRING + [MOST], consts=[text(MOST)], **A)
-case('string-without-strings', STRING + [0], consts=[text(0)])
-case('child-itself', CONSTANT, consts=[items(0)])
-case('child-above', CONSTANT, consts=[items(1), PLAIN])
-case('child-absent', CONSTANT, consts=[PLAIN, items(0, 9)])
-case('child-most', CONSTANT, consts=[PLAIN, items(MOST)])
-case('child-second', CONSTANT, consts=[PLAIN, items(0, 1)])
-case('child-below', HOLDS, consts=[PLAIN, items(0, 0), items(1, 0)])
-case('map-key-itself', CONSTANT, consts=[PLAIN, entries((1, 0))])
-case('map-value-itself', CONSTANT, consts=[PLAIN, entries((0, 1))])
-case('map-second-key-above', CONSTANT, consts=[PLAIN, entries((0, 0), (2, 0)), PLAIN])
-case('map-second-value-above', CONSTANT, consts=[PLAIN, entries((0, 0), (0, 2)), PLAIN])
-case('constants-in-order', STRING + [9], consts=[text(9), items(1)], **A)
-case('constants-in-order-swapped', CONSTANT, consts=[items(0), text(9)], **A)
-
-# constant 0 has depth 0, and each after it one more, up to n
-def nested(n, kind, first=PLAIN):
-    return [first] + [kind(c) for c in range(n)]
-
-for name, kind in (('arrays', items), ('keys', lambda c: entries((c, 0))), ('values', lambda c: entries((0, c))), ('later-children', lambda c: items(0, c, 0))):
-    case(f'depth-64-{name}', HOLDS, consts=nested(64, kind))
-    case(f'depth-65-{name}', CONSTANT, consts=nested(65, kind))
-for name, first in (('empty-array', items()), ('empty-map', entries()), ('string', text(0))):
-    case(f'depth-64-over-{name}', HOLDS, consts=nested(64, items, first), **A)
-    case(f'depth-65-over-{name}', CONSTANT, consts=nested(65, items, first), **A)
-case('depth-65-before-a-string', CONSTANT, consts=nested(65, items) + [text(9)])
-case('depth-64-and-wide', HOLDS, consts=nested(64, items) + [items(*range(64))] * 9)
-case('depth-65-by-the-widest', CONSTANT, consts=nested(64, items) + [items(*range(64)), items(*range(65))])
+CASES.append(('no-bytes', b'', line(BROKEN)))
+case('type-kind-7', BROKEN, types=[[7], array(ref(9))])
+# N = 11 + 2,021 = 2,032 words fill 16 blocks; a block more counts as no bytes
+case('sixteen-blocks', HOLDS, types=[COROUTINE] * 2021)
+case('seventeen-blocks', BROKEN, types=[COROUTINE] * 2022)
 
 if __name__ == '__main__':
-    write('judge', CASES, '1 0 0 0 0 0')
+    groups = [CASES, front.CASES, records.CASES, code.CASES, instructions.CASES, ends.CASES]
+    write('judge', sum(groups, []), line(BROKEN), host_list(records.HOSTS))

@@ -1,15 +1,16 @@
 -- The scan type by type, and the comparison of a parent's fields with its child's, word by word.
-use Prim.Native.Nat.{ℕ, zero, suc, _+_, _-_, _≤_, _<_}
+use Prim.Native.Nat.{ℕ, _+_, _-_, _≤_, _<_}
 use mathlib.Core.Path.{_≡_, refl, sym, ap, _∙_}
-use mathlib.Core.List.{List, [], _∷_, _++_}
+use mathlib.Core.List.{List, [], _++_}
 use mathlib.Core.Bool.{Bool, true, false, not, _&&_}
 use native.Mathlib.Omega.{arith}
 use native.Mathlib.Numerals.{add-one}
-use lib.Dec.{eqb, leb}
+use lib.Dec.{leb}
 use lib.ListN.{length, getD, drop}
-use borrow.Author.Tests.{eq-eqb, ne-eqb, leb-true, leb-false, not-true, not-false}
+use borrow.Author.Tests.{leb-true, leb-false, not-true, not-false}
 use Rattle.lists.specs.Lists.{isFront}
 use Rattle.lists.specs.ListLaws.{and-first, and-second}
+use Rattle.lists.specs.FrontLaws.{front-long, front-next, front-differs, front-end}
 use Rattle.error.specs.declared.LoadErrorKind.{LoadErrorKind}
 use Rattle.error.specs.declared.LoadErrorKind.the-variants.{BadParent, InheritanceTooDeep}
 use Rattle.error.specs.declared.Verdict.{Verdict}
@@ -28,43 +29,6 @@ use Rattle.parents.specs.Forest.{other, sub, entry}
 use Rattle.parents.specs.Parents.{fieldWords, fieldsFirst, shortChain, childFaults, parentFaults, parentsFaults}
 use Rattle.parent_rules.specs.Child.{parentWord, extends, scanFaults}
 use Rattle.parent_rules.proofs.ChainSteps.{entry-none, entry-sub}
-
--- ── the front of a list, word by word ──
-
-and-false : (b : Bool) → (b && false) ≡ false
-and-false true = refl
-and-false false = refl
-
--- a longer list is no front
-front-long : (xs ys : List ℕ) → length ys < length xs → isFront xs ys ≡ false
-front-long [] ys h = absurd (omega arith)
-front-long (x ∷ xs) [] h = refl
-front-long (x ∷ xs) (y ∷ ys) h = ap (λ b. eqb x y && b) (front-long xs ys (omega arith)) ∙ and-false (eqb x y)
-
-front-next : (xs ys : List ℕ) (i : ℕ) → i < length xs → i < length ys → getD xs i 0 ≡ getD ys i 0 → isFront (drop i xs) (drop i ys) ≡ isFront (drop (suc i) xs) (drop (suc i) ys)
-front-next [] ys i h k e = absurd (omega arith)
-front-next (x ∷ xs) [] i h k e = absurd (omega arith)
-front-next (x ∷ xs) (y ∷ ys) zero h k e = ap (λ b. b && isFront xs ys) (eq-eqb x y e)
-front-next (x ∷ xs) (y ∷ ys) (suc i) h k e = front-next xs ys i (omega arith) (omega arith) e
-
-front-differs : (xs ys : List ℕ) (i : ℕ) → i < length xs → i < length ys → (getD xs i 0 ≡ getD ys i 0 → ⊥) → isFront (drop i xs) (drop i ys) ≡ false
-front-differs [] ys i h k e = absurd (omega arith)
-front-differs (x ∷ xs) [] i h k e = absurd (omega arith)
-front-differs (x ∷ xs) (y ∷ ys) zero h k e = ap (λ b. b && isFront xs ys) (ne-eqb x y e)
-front-differs (x ∷ xs) (y ∷ ys) (suc i) h k e = front-differs xs ys i (omega arith) (omega arith) e
-
-front-end : (xs ys : List ℕ) (i : ℕ) → length xs ≤ i → isFront (drop i xs) (drop i ys) ≡ true
-front-end [] ys zero h = refl
-front-end [] ys (suc i) h = refl
-front-end (x ∷ xs) ys zero h = absurd (omega arith)
-front-end (x ∷ xs) [] (suc i) h = go xs i (omega arith)
-  where
-    go : (xs : List ℕ) (i : ℕ) → length xs ≤ i → isFront (drop i xs) [] ≡ true
-    go [] zero h = refl
-    go [] (suc i) h = refl
-    go (x ∷ xs) zero h = absurd (omega arith)
-    go (x ∷ xs) (suc i) h = go xs i (omega arith)
-front-end (x ∷ xs) (y ∷ ys) (suc i) h = front-end xs ys i (omega arith)
 
 -- ── what is broken in one type ──
 

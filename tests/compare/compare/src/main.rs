@@ -13,6 +13,7 @@ const USAGE: &str = "usage:
   compare cases [--seed S] [--count N] [--max-blocks B] --out FILE
   compare check FILE
   compare show FILE K
+  compare numbers HOSTS SHEET...
   compare antt [--seed S] [--count N] [--max-words W]
 numbers are decimal; seed 1 by default";
 
@@ -75,6 +76,10 @@ fn run(args: &[String]) -> Option<Result<(), String>> {
         },
         "show" => match rest {
             [file, k] => Some(show(file, k.parse().ok()?)),
+            _ => None,
+        },
+        "numbers" => match rest {
+            [hosts, sheets @ ..] if !sheets.is_empty() => Some(numbers(hosts, sheets)),
             _ => None,
         },
         _ => None,
@@ -163,9 +168,12 @@ fn write_file(path: &str, bytes: &[u8]) -> Result<(), String> {
     std::fs::write(path, bytes).map_err(|e| format!("{path}: {e}"))
 }
 
+fn read_bytes(path: &str) -> Result<Vec<u8>, String> {
+    std::fs::read(path).map_err(|e| format!("{path}: {e}"))
+}
+
 fn read_file(path: &str) -> Result<Vec<StoredCase>, String> {
-    let bytes = std::fs::read(path).map_err(|e| format!("{path}: {e}"))?;
-    read_cases(&bytes).ok_or_else(|| format!("{path}: no file of stored cases"))
+    read_cases(&read_bytes(path)?).ok_or_else(|| format!("{path}: no file of stored cases"))
 }
 
 fn check(path: &str) -> Result<(), String> {
@@ -189,4 +197,15 @@ fn show(path: &str, k: usize) -> Result<(), String> {
     let cases = read_file(path)?;
     let case = cases.get(k).ok_or_else(|| format!("{path}: no case {k}"))?;
     print(&describe_case(case))
+}
+
+/// The six numbers of each sheet under one host list, with slices long enough.
+fn numbers(hosts: &str, sheets: &[String]) -> Result<(), String> {
+    let hosts = read_bytes(hosts)?;
+    for path in sheets {
+        let numbers = answer(&read_bytes(path)?, &hosts, u32::MAX, u32::MAX).numbers;
+        let numbers = numbers.map(|n| n.to_string()).join(" ");
+        print(&format!("{path} {numbers}\n"))?;
+    }
+    Ok(())
 }

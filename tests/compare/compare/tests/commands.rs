@@ -22,7 +22,7 @@ fn file(name: &str) -> PathBuf {
 
 #[test]
 fn wrong_arguments_end_with_2() {
-    let wrong: [&[&str]; 10] = [
+    let wrong: [&[&str]; 11] = [
         &[],
         &["what"],
         &["coverage", "--seed"],
@@ -33,6 +33,7 @@ fn wrong_arguments_end_with_2() {
         &["check"],
         &["show", "file"],
         &["antt", "--max-words", "127"],
+        &["numbers", "hosts"],
     ];
     for args in wrong {
         assert_eq!(code(args), Some(2), "{args:?}");
@@ -85,4 +86,16 @@ fn lines_for_other_tools() {
             _ => assert_eq!(parts[5], "-"),
         }
     }
+}
+
+#[test]
+fn numbers_of_a_sheet_under_a_host_list() {
+    let (hosts, sheet) = (file("hosts"), file("sheet"));
+    std::fs::write(&hosts, sheets::encode_hosts(&[]).to_bytes()).expect("it is written");
+    let empty = sheets::encode_sheet(&sheets::Sheet::default()).to_bytes();
+    std::fs::write(&sheet, empty).expect("it is written");
+    let (hosts, sheet) = (hosts.to_str().expect("text"), sheet.to_str().expect("text"));
+    let line = format!("{sheet} 0 0 49 0 0 0\n");
+    assert_eq!(stdout(&["numbers", hosts, sheet, sheet]), line.repeat(2));
+    assert_eq!(code(&["numbers", hosts, "/nowhere/at/all"]), Some(1));
 }

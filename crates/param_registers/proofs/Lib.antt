@@ -1,0 +1,2 @@
+pub mod CanonSteps
+pub mod FrontSteps
