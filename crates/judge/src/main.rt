@@ -1,6 +1,9 @@
-// Prints of each file that the arguments name the six numbers of its answer, as far as rules 1 to 4 go.
+// Prints of each file that the arguments name the six numbers of its answer, no table being written: an accepted sheet has length 0.
+// The host list is the file `hosts`.
 use error::numbers::SixNumbers;
+use error::numbers::numbers;
 use libc::STDOUT_FILENO;
+use rules::answer::judge;
 
 fn print_number(n: u32) {
     io::write_all(STDOUT_FILENO, b" ");
@@ -18,26 +21,43 @@ fn print_numbers(n: SixNumbers) {
 }
 
 // 16 blocks hold 2,032 words, for which 16,320 words of work are enough.
-fn report(sheet: &[u8]) {
+fn report(sheet: &[u8], hosts: &[u8]) {
     let mut work = [0u32; 16320];
-    print_numbers(error::numbers::numbers(rules::judge_front(sheet, &mut work)));
+    print_numbers(numbers(judge(sheet, hosts, &mut work)));
 }
 
 // Over 16 blocks, or a file that cannot be opened, count as no bytes.
-fn report_file(name: &[u8]) {
-    let mut bytes = [0u8; 8193];
+fn read_file(name: &[u8], bytes: &mut [u8; 8193]) -> usize {
     let fd = os::open_read(name);
     if fd < 0 {
-        report(&bytes[..0]);
-        return;
+        return 0;
     }
-    let n = io::read_full(fd, &mut bytes);
+    let n = io::read_full(fd, bytes);
     libc::close(fd);
     if n < 8193 {
-        report(&bytes[..n]);
-    } else {
-        report(&bytes[..0]);
+        return n;
     }
+    0
+}
+
+fn report_first(bytes: &[u8], n: usize, list: &[u8], m: usize) {
+    if n <= bytes.len() {
+        if m <= list.len() {
+            report(&bytes[..n], &list[..m]);
+        }
+    }
+}
+
+fn report_in(bytes: &[u8; 8193], n: usize, list: &[u8; 8193], m: usize) {
+    report_first(bytes, n, list, m);
+}
+
+fn report_file(name: &[u8]) {
+    let mut bytes = [0u8; 8193];
+    let mut list = [0u8; 8193];
+    let n = read_file(name, &mut bytes);
+    let m = read_file(b"hosts", &mut list);
+    report_in(&bytes, n, &list, m);
 }
 
 fn report_argument(i: usize) {

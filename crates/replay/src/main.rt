@@ -1,10 +1,12 @@
-// Replays stored cases (tests/compare/README.md has their format): kinds 1, 23 and 24, and then rules 2 to 4.
-// A case of another kind must pass these three. Where rules 2 to 4 refuse, the case's six numbers must be theirs; where they pass,
-// its kind must be none that only they give. Prints how many cases were replayed, how many differed, and which.
+// Replays stored cases (tests/compare/README.md has their format): kinds 1, 23 and 24 by the lengths of the case, and then all rules.
+// Where they refuse, the case's six numbers must be theirs; where they pass, its kind must be 0. No table is written.
+// Prints how many cases were replayed, how many differed, and which.
 use error::numbers::SixNumbers;
+use error::numbers::numbers;
 use host::Listed;
 use layout::Checked;
 use libc::STDOUT_FILENO;
+use rules::answer::judge;
 
 // Lengths and kind of a stored case.
 struct Case {
@@ -109,20 +111,12 @@ fn are_same(a: SixNumbers, b: SixNumbers) -> bool {
     a.pc == b.pc
 }
 
-// Kinds that rules 2 to 4 alone give: 16, 17 and 18.
-fn passes_front(kind: u32) -> bool {
-    match kind {
-        16 | 17 | 18 => false,
-        _ => true,
-    }
-}
-
-// Rules 2 to 4 agree with the answer of a case whose layout passes.
-fn front_agrees(sheet: &[u8], answer: SixNumbers) -> bool {
+// The rules agree with the answer of a case whose layout passes; an accepted one has a length, which is not compared.
+fn rules_agree(sheet: &[u8], hosts: &[u8], answer: SixNumbers) -> bool {
     let mut work = [0u32; 65600];
-    let found = error::numbers::numbers(rules::judge_front(sheet, &mut work));
+    let found = numbers(judge(sheet, hosts, &mut work));
     if found.kind == 0 {
-        return passes_front(answer.kind);
+        return answer.kind == 0;
     }
     are_same(found, answer)
 }
@@ -133,7 +127,7 @@ fn agrees(sheet: &[u8], hosts: &[u8], table: usize, work: usize, answer: SixNumb
         return false;
     }
     if kind == 0 {
-        return front_agrees(sheet, answer);
+        return rules_agree(sheet, hosts, answer);
     }
     true
 }

@@ -75,10 +75,14 @@ module _ (hosts : List HostFn) (m : Module) where
       ∙ judged-without (T ++ P) W (C ++ ((I ++ G ++ F) ++ (K ++ (H ++ S ++ E)))) walk-empty
       ∙ ap judgedOf (grouped (T ++ P) C I G F K H S E)
 
-  -- rules 2 to 4 hold: so does rule 2
-  pub front-types : {r : Judged} → r ≡ Passed → r ≡ judgedOf (frontFaults m) → typesFaults m ≡ []
-  unfolding frontFaults
-  front-types e k = (append-empty T P) .0 ((append-empty (T ++ P) C) .0 (none-refused (T ++ P ++ C) e k) .0) .0
+-- rules 2 to 4 hold: so does rule 2
+pub front-types : (m : Module) {r : Judged} → r ≡ Passed → r ≡ judgedOf (frontFaults m) → typesFaults m ≡ []
+unfolding frontFaults
+front-types m e k =
+    let T = typesFaults m in
+    let P = parentsFaults mostOnChain m in
+    let C = constsFaults mostDeep m in
+    (append-empty T P) .0 ((append-empty (T ++ P) C) .0 (none-refused (T ++ P ++ C) e k) .0) .0
 
 -- ── what stays in work ──
 

@@ -1,11 +1,7 @@
+-- `rules::check_bodies` meets its contract.
 use borrow.Author.Needs.{needs}
 use Rattle.rules.proofs.check_bodies.Statement.{statement}
 use Rattle.rules.proofs.check_bodies.Tie as tie
-use Rattle.rules.proofs.check_bodies.Reads as reads
-use Rattle.rules.proofs.check_bodies.Lts as lts
-use Rattle.bodies.proofs.index_captures.Reads as index-captures-reads
-use Rattle.code_rules.proofs.check_codes.Reads as check-codes-reads
-use Rattle.rules.proofs.check_ends.Reads as check-ends-reads
 use Rattle.rules.proofs.OrderSteps.{body-order}
 
 index-captures-requires : tie.Need-index-captures-requires

@@ -1,11 +1,7 @@
+-- `rules::check_ends` meets its contract.
 use borrow.Author.Needs.{needs}
 use Rattle.rules.proofs.check_ends.Statement.{statement}
 use Rattle.rules.proofs.check_ends.Tie as tie
-use Rattle.rules.proofs.check_ends.Reads as reads
-use Rattle.rules.proofs.check_ends.Lts as lts
-use Rattle.end_rules.proofs.check_exports.Reads as check-exports-reads
-use Rattle.end_rules.proofs.check_start.Reads as check-start-reads
-use Rattle.hook_rules.proofs.check_hooks.Reads as check-hooks-reads
 use Rattle.rules.proofs.OrderSteps.{end-order}
 
 check-hooks-requires : tie.Need-check-hooks-requires

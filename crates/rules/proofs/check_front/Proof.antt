@@ -1,11 +1,7 @@
+-- `rules::check_front` meets its contract.
 use borrow.Author.Needs.{needs}
 use Rattle.rules.proofs.check_front.Statement.{statement}
 use Rattle.rules.proofs.check_front.Tie as tie
-use Rattle.rules.proofs.check_front.Reads as reads
-use Rattle.rules.proofs.check_front.Lts as lts
-use Rattle.const_rules.proofs.check_consts.Reads as check-consts-reads
-use Rattle.parent_rules.proofs.check_parents.Reads as check-parents-reads
-use Rattle.type_rules.proofs.check_types.Reads as check-types-reads
 use Rattle.rules.proofs.OrderSteps.{front-order}
 
 check-types-requires : tie.Need-check-types-requires

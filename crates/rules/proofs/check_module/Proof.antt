@@ -1,11 +1,7 @@
+-- `rules::check_module` meets its contract.
 use borrow.Author.Needs.{needs}
 use Rattle.rules.proofs.check_module.Statement.{statement}
 use Rattle.rules.proofs.check_module.Tie as tie
-use Rattle.rules.proofs.check_module.Reads as reads
-use Rattle.rules.proofs.check_module.Lts as lts
-use Rattle.rules.proofs.check_bodies.Reads as check-bodies-reads
-use Rattle.rules.proofs.check_front.Reads as check-front-reads
-use Rattle.rules.proofs.check_records.Reads as check-records-reads
 use Rattle.opening.specs.ReadyLaws.{ready-kept}
 use Rattle.rules.specs.GroupLaws.{front-types, links-ready, links-linked, linked-refused}
 use Rattle.rules.proofs.OrderSteps.{all-order, records-stop, bodies-last}
@@ -26,7 +22,7 @@ returns : tie.Need-returns
 returns c = search (needs, all-order, ready-kept)
 
 check-records-requires : tie.Need-check-records-requires
-check-records-requires c κs = (ready-kept _ _ _ (c .before .before .before .before .before .before .before .before .before .before .pre .0) _ (c .before .before .before .before .before .check-front .ensures .1), (front-types _ _ (c .before .enum-told .given .1) (c .before .before .before .before .before .check-front .ensures .0), c .before .before .before .before .before .before .before .before .before .before .pre .1 .1))
+check-records-requires c κs = (ready-kept _ _ _ (c .before .before .before .before .before .before .before .before .before .before .pre .0) _ (c .before .before .before .before .before .check-front .ensures .1), (front-types _ (c .before .enum-told .given .1) (c .before .before .before .before .before .check-front .ensures .0), c .before .before .before .before .before .before .before .before .before .before .pre .1 .1))
 
 enum-told-2 : tie.Need-enum-told-2
 enum-told-2 c = search (needs, all-order, ready-kept)

@@ -1,16 +1,12 @@
+-- `rules::check_records` meets its contract.
 use borrow.Author.Needs.{needs}
 use Rattle.rules.proofs.check_records.Statement.{statement}
 use Rattle.rules.proofs.check_records.Tie as tie
-use Rattle.rules.proofs.check_records.Reads as reads
-use Rattle.rules.proofs.check_records.Lts as lts
-use Rattle.global_rules.proofs.check_globals.Reads as check-globals-reads
-use Rattle.import_rules.proofs.check_imports.Reads as check-imports-reads
-use Rattle.rules.proofs.stub.check_funcs.Reads as check-funcs-reads
 use Rattle.opening.specs.ReadyLaws.{ready-kept}
 use Rattle.rules.proofs.OrderSteps.{record-order, funcs-last, kept-equal, linked-equal}
 
 check-imports-requires : tie.Need-check-imports-requires
-check-imports-requires c κs = search (needs, record-order, ready-kept)
+check-imports-requires c κs = search (needs, record-order)
 
 enum-told : tie.Need-enum-told
 enum-told c = search (needs, record-order, ready-kept)
@@ -22,10 +18,10 @@ same-length : tie.Need-same-length
 same-length c = search (needs, record-order, ready-kept)
 
 returns : tie.Need-returns
-returns c = search (needs, record-order, ready-kept)
+returns c = search (needs, record-order)
 
 check-globals-requires : tie.Need-check-globals-requires
-check-globals-requires c κs = search (needs, record-order, ready-kept)
+check-globals-requires c κs = search (needs, record-order)
 
 enum-told-2 : tie.Need-enum-told-2
 enum-told-2 c = search (needs, record-order, ready-kept)
@@ -37,7 +33,7 @@ same-length-2 : tie.Need-same-length-2
 same-length-2 c = search (needs, record-order, ready-kept)
 
 returns-2 : tie.Need-returns-2
-returns-2 c = search (needs, record-order, ready-kept)
+returns-2 c = search (needs, record-order)
 
 check-funcs-requires : tie.Need-check-funcs-requires
 check-funcs-requires c κs = search (needs, record-order, ready-kept)

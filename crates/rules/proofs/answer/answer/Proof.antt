@@ -1,8 +1,7 @@
+-- `rules::answer::answer` meets its contract.
 use borrow.Author.Needs.{needs}
 use Rattle.rules.proofs.answer.answer.Statement.{statement}
 use Rattle.rules.proofs.answer.answer.Tie as tie
-use Rattle.rules.proofs.answer.answer.Reads as reads
-use Rattle.rules.proofs.answer.answer.Lts as lts
 use Rattle.rules.proofs.AnswerSteps.{loaded-passed, loaded-refused}
 
 enum-told : tie.Need-enum-told
@@ -12,10 +11,10 @@ enum-known-j : tie.Need-enum-known-j
 enum-known-j c = search (needs, loaded-passed, loaded-refused)
 
 returns : tie.Need-returns
-returns c = search (needs, loaded-passed, loaded-refused)
+returns c = search (needs, loaded-passed)
 
 returns-2 : tie.Need-returns-2
-returns-2 c = search (needs, loaded-passed, loaded-refused)
+returns-2 c = search (needs, loaded-refused)
 
 pub answer-spec : {M : Type 1} → statement M
 answer-spec = tie.close (tie.spec enum-told enum-known-j returns returns-2)

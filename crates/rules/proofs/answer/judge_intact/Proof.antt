@@ -1,12 +1,7 @@
+-- `rules::answer::judge_intact` meets its contract.
 use borrow.Author.Needs.{needs}
 use Rattle.rules.proofs.answer.judge_intact.Statement.{statement}
 use Rattle.rules.proofs.answer.judge_intact.Tie as tie
-use Rattle.rules.proofs.answer.judge_intact.Reads as reads
-use Rattle.rules.proofs.answer.judge_intact.Lts as lts
-use Rattle.opening.proofs.open_sheet.Reads as open-sheet-reads
-use Rattle.region.proofs.fill.Reads as fill-reads
-use Rattle.rules.proofs.answer.answer.Reads as answer-reads
-use Rattle.rules.proofs.check_module.Reads as check-module-reads
 use Rattle.rules.proofs.AnswerSteps.{opened-ready, opened-few, opened-first, filled-zero}
 
 open-sheet-requires : tie.Need-open-sheet-requires
@@ -19,7 +14,7 @@ fill-requires : tie.Need-fill-requires
 fill-requires c κs = search (needs, opened-ready, opened-few, opened-first, filled-zero)
 
 answer-requires : tie.Need-answer-requires
-answer-requires c κs = search (needs, opened-ready, opened-few, opened-first, filled-zero)
+answer-requires c κs = search needs
 
 same-length : tie.Need-same-length
 same-length c = search (needs, opened-ready, opened-few, opened-first, filled-zero)
