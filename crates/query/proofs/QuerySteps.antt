@@ -1,0 +1,200 @@
+-- The tests of the family query, one law for each return.
+use Prim.Native.Nat.{ℕ, _+_, _-_, _*_, _/_, _≤_, _<_}
+use mathlib.Core.Path.{_≡_, refl, sym, ap, _∙_}
+use mathlib.Core.List.{List}
+use mathlib.Core.Bool.{Bool, true, false, cond, _&&_}
+use native.Mathlib.Omega.{arith}
+use native.Mathlib.Decide.{decLe}
+use lib.Dec.{eqb, leb, ltb}
+use lib.ListN.{length, getD}
+use borrow.Author.Tests.{leb-true, le-leb, lt-leb, eqb-true, eq-eqb, ne-eqb, lt-ltb, le-ltb}
+use Rattle.lists.specs.ListLaws.{and-first, and-second}
+use Rattle.descends.specs.Descends.{tableLength, spansStart, spanCount, spansEnd, isLinked, preIn, postIn, isWithin, descends}
+
+-- a test in a row that fails
+row-2 : (a c d e : Bool) → (a && false && c && d && e) ≡ false
+row-2 true c d e = refl
+row-2 false c d e = refl
+
+row-3 : (a b d e : Bool) → (a && b && false && d && e) ≡ false
+row-3 true true d e = refl
+row-3 true false d e = refl
+row-3 false b d e = refl
+
+row-4 : (a b c e : Bool) → (a && b && c && false && e) ≡ false
+row-4 true true true e = refl
+row-4 true true false e = refl
+row-4 true false c e = refl
+row-4 false b c e = refl
+
+row-5 : (a b c d : Bool) → (a && b && c && d && false) ≡ false
+row-5 true true true true = refl
+row-5 true true true false = refl
+row-5 true true false d = refl
+row-5 true false c d = refl
+row-5 false b c d = refl
+
+-- ── whether the words are a linked table ──
+
+module _ (ws : List ℕ) where
+  abbrev A : Bool
+  A = leb 10 (length ws)
+
+  abbrev B : Bool
+  B = eqb (getD ws 0 0) 1
+
+  abbrev C : Bool
+  C = leb (getD ws 1 0) (length ws)
+
+  abbrev D : Bool
+  D = leb 10 (getD ws 9 0)
+
+  abbrev E : Bool
+  E = leb (getD ws 9 0 + 1 + 2 * getD ws (getD ws 9 0) 0) (getD ws 1 0)
+
+  -- five tests, one after the other
+  five : isLinked ws ≡ (A && B && C && D && E)
+  unfolding isLinked tableLength spansStart spansEnd spanCount
+  five = refl
+
+  pub few : length ws < 10 → false ≡ isLinked ws
+  few h = sym (five ∙ ap (λ x. x && B && C && D && E) (lt-leb 10 (length ws) h))
+
+  pub other-edition : {x : ℕ} → x ≡ getD ws 0 0 → (x ≡ 1 → ⊥) → false ≡ isLinked ws
+  other-edition {x} e h = sym (five ∙ ap (λ x. A && x && C && D && E) (ne-eqb (getD ws 0 0) 1 (λ z. h (e ∙ z))) ∙ row-2 A C D E)
+
+  module _ {end start : ℕ} (e : end ≡ getD ws 1 0) (s : start ≡ getD ws 9 0) where
+    pub long : length ws < end → false ≡ isLinked ws
+    long h = sym (five ∙ ap (λ x. A && B && x && D && E) (lt-leb (getD ws 1 0) (length ws) (omega (arith, e))) ∙ row-3 A B D E)
+
+    pub early : start < 10 → false ≡ isLinked ws
+    early h = sym (five ∙ ap (λ x. A && B && C && x && E) (lt-leb 10 (getD ws 9 0) (omega (arith, s))) ∙ row-4 A B C E)
+
+    pub past : end ≤ start → false ≡ isLinked ws
+    past h = sym (five ∙ ap (λ x. A && B && C && D && x) (lt-leb (getD ws 9 0 + 1 + 2 * getD ws (getD ws 9 0) 0) (getD ws 1 0) (omega (arith, e, s))) ∙ row-5 A B C D)
+
+    -- the count, in half of the words that are left
+    halved : {count : ℕ} → count ≡ getD ws (getD ws 9 0) 0 → start < end → leb count ((end - start - 1) / 2) ≡ E
+    halved {count} c h = go (decLe count ((end - start - 1) / 2))
+      where
+        go : Dec (count ≤ (end - start - 1) / 2) → leb count ((end - start - 1) / 2) ≡ E
+        go (yes l) = le-leb count ((end - start - 1) / 2) l ∙ sym (le-leb (getD ws 9 0 + 1 + 2 * getD ws (getD ws 9 0) 0) (getD ws 1 0) (omega (arith, e, s, c)))
+        go (no l) = lt-leb count ((end - start - 1) / 2) (omega arith) ∙ sym (lt-leb (getD ws 9 0 + 1 + 2 * getD ws (getD ws 9 0) 0) (getD ws 1 0) (omega (arith, e, s, c)))
+
+    pub last-test : {x count : ℕ} → 10 ≤ length ws → x ≡ getD ws 0 0 → x ≡ 1 → end ≤ length ws → 10 ≤ start → start < end → count ≡ getD ws start 0 →
+        leb count ((end - start - 1) / 2) ≡ isLinked ws
+    last-test {x} {count} a b b' c d f g =
+        halved (g ∙ ap (λ k. getD ws k 0) s) f
+        ∙ sym
+        (five
+        ∙ ap (λ x. x && B && C && D && E) (le-leb 10 (length ws) a)
+        ∙ ap (λ x. x && C && D && E) (eq-eqb (getD ws 0 0) 1 (sym b ∙ b'))
+        ∙ ap (λ x. x && D && E) (le-leb (getD ws 1 0) (length ws) (omega (arith, e)))
+        ∙ ap (λ x. x && E) (le-leb 10 (getD ws 9 0) (omega (arith, s))))
+
+  -- what a linked table says of its words
+  pub record Linked : Type 0 where
+    pub header : 10 ≤ length ws
+    pub table : getD ws 1 0 ≤ length ws
+    pub spans : getD ws 9 0 + 1 + 2 * getD ws (getD ws 9 0) 0 ≤ getD ws 1 0
+
+  pub linked : isLinked ws ≡ true → Linked
+  linked h =
+      let k = sym five ∙ h in
+      let d = and-first (A && B && C && D) E k in
+      let c = and-first (A && B && C) D d in
+      let b = and-first (A && B) C c in
+      record {
+        header = leb-true 10 (length ws) (and-first A B b);
+        table = leb-true (getD ws 1 0) (length ws) (and-second (A && B) C c);
+        spans = leb-true (getD ws 9 0 + 1 + 2 * getD ws (getD ws 9 0) 0) (getD ws 1 0) (and-second (A && B && C && D) E k);
+      }
+
+pub ruleset linking = (few, other-edition, long, early, past, last-test)
+
+-- ── whether the span of a holds t ──
+
+four-2 : (a c d : Bool) → (a && false && c && d) ≡ false
+four-2 true c d = refl
+four-2 false c d = refl
+
+four-3 : (a b d : Bool) → (a && b && false && d) ≡ false
+four-3 true true d = refl
+four-3 true false d = refl
+four-3 false b d = refl
+
+module _ (ws : List ℕ) (t a : ℕ) {start count : ℕ} (s : start ≡ spansStart ws) (c : count ≡ spanCount ws) where
+  abbrev preOf : ℕ → ℕ
+  preOf x = getD ws (start + 1 + 2 * x) 0
+
+  -- four tests, one after the other
+  four : isWithin ws t a ≡ (ltb t count && ltb a count && leb (preOf a) (preOf t) && ltb (preOf t) (getD ws (start + 2 + 2 * a) 0))
+  unfolding isWithin preIn postIn
+  four = rw (c, s) refl
+
+  pub unknown-t : count ≤ t → false ≡ isWithin ws t a
+  unknown-t h = sym (four ∙ ap (λ x. x && ltb a count && leb (preOf a) (preOf t) && ltb (preOf t) (getD ws (start + 2 + 2 * a) 0)) (le-ltb t count h))
+
+  pub unknown-a : count ≤ a → false ≡ isWithin ws t a
+  unknown-a h =
+      sym
+      (four
+      ∙ ap (λ x. ltb t count && x && leb (preOf a) (preOf t) && ltb (preOf t) (getD ws (start + 2 + 2 * a) 0)) (le-ltb a count h)
+      ∙ four-2 (ltb t count) (leb (preOf a) (preOf t)) (ltb (preOf t) (getD ws (start + 2 + 2 * a) 0)))
+
+  module _ {pre low : ℕ} (p : pre ≡ getD ws (start + 1 + 2 * t) 0) (l : low ≡ getD ws (start + 1 + 2 * a) 0) where
+    pub before : pre < low → false ≡ isWithin ws t a
+    before h =
+        sym
+        (four
+        ∙ ap (λ x. ltb t count && ltb a count && x && ltb (preOf t) (getD ws (start + 2 + 2 * a) 0)) (lt-leb (preOf a) (preOf t) (omega (arith, p, l)))
+        ∙ four-3 (ltb t count) (ltb a count) (ltb (preOf t) (getD ws (start + 2 + 2 * a) 0)))
+
+    pub last-of-four : {post : ℕ} → t < count → a < count → low ≤ pre → post ≡ getD ws (start + 2 + 2 * a) 0 → ltb pre post ≡ isWithin ws t a
+    last-of-four {post} h k j q =
+        ap (λ x. ltb x post) p
+        ∙ ap (ltb (preOf t)) q
+        ∙ sym
+        (four
+        ∙ ap (λ x. x && ltb a count && leb (preOf a) (preOf t) && ltb (preOf t) (getD ws (start + 2 + 2 * a) 0)) (lt-ltb t count h)
+        ∙ ap (λ x. x && leb (preOf a) (preOf t) && ltb (preOf t) (getD ws (start + 2 + 2 * a) 0)) (lt-ltb a count k)
+        ∙ ap (λ x. x && ltb (preOf t) (getD ws (start + 2 + 2 * a) 0)) (le-leb (preOf a) (preOf t) (omega (arith, p, l))))
+
+pub ruleset withins = (unknown-t, unknown-a, before, last-of-four)
+
+-- what the query asks of a linked table
+pub spans-inside : (ws : List ℕ) {start count : ℕ} → isLinked ws ≡ true → start ≡ getD ws 9 0 → count ≡ getD ws start 0 →
+    (start ≡ spansStart ws) × ((count ≡ spanCount ws) × (start + 1 + 2 * count ≤ length ws))
+unfolding spansStart spanCount
+spans-inside ws {start} {count} h s c =
+    let k : count ≡ getD ws (getD ws 9 0) 0 = c ∙ ap (λ k. getD ws k 0) s in
+    (s, (k, omega (arith, s, k, linked ws h .table, linked ws h .spans)))
+
+pub start-inside : (ws : List ℕ) {start : ℕ} → isLinked ws ≡ true → start ≡ getD ws 9 0 → start < length ws
+start-inside ws h s = omega (arith, s, linked ws h .table, linked ws h .spans)
+
+pub header-inside : (ws : List ℕ) → isLinked ws ≡ true → 9 < length ws
+header-inside ws h = omega (arith, linked ws h .header)
+
+-- ── the answer ──
+
+module _ (ws : List ℕ) (t a : ℕ) {l : Bool} (e : l ≡ isLinked ws) where
+  pub not-linked : l ≡ false → 25 ≡ descends ws t a
+  unfolding descends
+  not-linked h = sym (ap (λ x. cond x (cond (isWithin ws t a) 1 0) 25) (sym e ∙ h))
+
+  pub asked : l ≡ true → isLinked ws ≡ true
+  asked h = sym e ∙ h
+
+  module _ (h : l ≡ true) {w : Bool} (f : w ≡ isWithin ws t a) where
+    answer : {x : Bool} → w ≡ x → descends ws t a ≡ cond x 1 0
+    unfolding descends
+    answer {x} k = ap (λ y. cond y (cond (isWithin ws t a) 1 0) 25) (sym e ∙ h) ∙ ap (λ y. cond y 1 0) (sym f ∙ k)
+
+    pub yes-within : w ≡ true → 1 ≡ descends ws t a
+    yes-within k = sym (answer k)
+
+    pub not-within : w ≡ false → 0 ≡ descends ws t a
+    not-within k = sym (answer k)
+
+pub ruleset querying = (not-linked, asked, yes-within, not-within)

@@ -1,0 +1,73 @@
+// The family query on a linked table.
+ghost use mathlib.Core.Path.{_≡_};
+ghost use mathlib.Core.Bool.{true};
+ghost use Prim.Native.Nat.{_+_, _*_, _≤_};
+ghost use lib.ListN.{length};
+ghost use Rattle.descends.specs.Descends.{spansStart, spanCount, isLinked, isWithin, descends};
+use error::TypeId;
+use region::at;
+
+// Edition 1, and a spans section inside the L words. The count is compared with half of what is left, so nothing wraps.
+fn is_linked(table: &[u32]) -> bool
+    ensures { λ r. ⌜ r ≡ isLinked (now (table .entry)) ⌝ }
+{
+    if table.len() < 10 {
+        return false;
+    }
+    if at(table, 0) != 1 {
+        return false;
+    }
+    let end = at(table, 1);
+    let start = at(table, 9);
+    if table.len() < end {
+        return false;
+    }
+    if start < 10 {
+        return false;
+    }
+    if end <= start {
+        return false;
+    }
+    at(table, start) <= (end - start - 1) / 2
+}
+
+// Both numbers are known, and pre(a) ≤ pre(t) < post(a).
+fn is_within(table: &[u32], start: usize, count: usize, t: u32, a: u32) -> bool
+    requires { ⌜ start ≡ spansStart (now table) ⌝ }
+    requires { ⌜ count ≡ spanCount (now table) ⌝ }
+    requires { ⌜ start + 1 + 2 * count ≤ length (now table) ⌝ }
+    ensures { λ r. ⌜ r ≡ isWithin (now (table .entry)) t a ⌝ }
+{
+    if count <= t as usize {
+        return false;
+    }
+    if count <= a as usize {
+        return false;
+    }
+    let pre = at(table, start + 1 + 2 * t as usize);
+    if pre < at(table, start + 1 + 2 * a as usize) {
+        return false;
+    }
+    pre < at(table, start + 2 + 2 * a as usize)
+}
+
+fn answer(table: &[u32], t: u32, a: u32) -> bool
+    requires { ⌜ isLinked (now table) ≡ true ⌝ }
+    ensures { λ r. ⌜ r ≡ isWithin (now (table .entry)) t a ⌝ }
+{
+    let start = at(table, 9);
+    is_within(table, start, at(table, start), t, a)
+}
+
+// 1 where t is a or descends from it, 0 where not, 25 where the words are no linked table.
+pub fn descends(table: &[u32], t: TypeId, a: TypeId) -> u32
+    ensures { λ r. ⌜ r ≡ descends (now (table .entry)) (t .0) (a .0) ⌝ }
+{
+    if is_linked(table) {
+        if answer(table, t.0, a.0) {
+            return 1;
+        }
+        return 0;
+    }
+    25
+}
