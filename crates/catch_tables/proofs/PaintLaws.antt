@@ -9,7 +9,7 @@ use lib.ListN.{getD}
 use Rattle.blocks.specs.Blocks.{words}
 use Rattle.table.specs.Records.{noHandler}
 use Rattle.catch_tables.specs.Catch.{within, catchAt}
-use Rattle.catch_tables.specs.Links.{Links, Found}
+use Rattle.catch_tables.specs.Links.{Found}
 use Rattle.catch_tables.specs.Painting.{Painted, Table}
 use Rattle.catch_tables.proofs.CatchLaws.{within-yes, within-start, within-end, lowest-hit, lowest-miss}
 use Rattle.catch_tables.proofs.LinkLaws.{taken-links}

@@ -1,5 +1,5 @@
 -- The table and its links in memory: each step of the loops.
-use mathlib.Core.Path.{_≡_, refl, sym, ap, _∙_, subst}
+use mathlib.Core.Path.{_≡_, ap, _∙_, subst}
 use mathlib.Core.List.{List}
 use Prim.Native.Nat.{ℕ, _+_, _*_, _≤_, _<_, min}
 use native.Mathlib.Omega.{arith}
@@ -10,8 +10,7 @@ use Rattle.region.specs.Region.{Off, Frame, wordAt}
 use Rattle.region.specs.RegionLaws.{frame-refl, frame-then, frame-set}
 use Rattle.table.specs.Records.{noHandler}
 use Rattle.catch_tables.specs.Catch.{catchAt}
-use Rattle.catch_tables.specs.Links.{Links, Found}
-use Rattle.catch_tables.specs.Painting.{Painted, Table, FindIn, FindOut, Room, PaintIn, PaintOut, AllIn, AllOut}
+use Rattle.catch_tables.specs.Painting.{Table, FindIn, FindOut, Room, PaintIn, PaintOut, AllIn, AllOut}
 use Rattle.catch_tables.proofs.LinkLaws.{Finding, finding-start, finding-more, finding-end}
 use Rattle.catch_tables.proofs.PaintLaws.{painted-none, painted-then, table-found, painted-past, painted-here, table-here, painted-handler}
 

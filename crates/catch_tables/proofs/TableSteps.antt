@@ -1,26 +1,25 @@
 -- The whole table: its two words in front, and the handlers as the sheet holds them.
 use mathlib.Core.Path.{_≡_, refl, sym, ap, ap₂, _∙_}
 use mathlib.Core.Bool.{Bool, true, false, cond, _&&_}
-use mathlib.Core.List.{List, [], _∷_, _++_, map}
-use Prim.Native.Nat.{ℕ, zero, suc, _+_, _*_, _≤_, _<_}
+use mathlib.Core.List.{List, [], _∷_, map}
+use Prim.Native.Nat.{ℕ, suc, _+_, _*_, _≤_, _<_}
 use native.Mathlib.Omega.{arith}
 use native.Mathlib.Nat.{zero-add}
 use lib.Dec.{leb, ltb}
 use lib.ListN.{length, getD, length-map}
 use borrow.Author.Tests.{lt-ltb, le-ltb, ltb-true, ltb-false}
-use Rattle.lists.specs.Lists.{concatMap, from, firstAt}
+use Rattle.lists.specs.Lists.{from, firstAt}
 use Rattle.lists.specs.ListLaws.{length-concatMap, getD-concatMap, length-from, map-agree}
 use Rattle.blocks.specs.Blocks.{words}
 use Rattle.blocks.specs.Frame.{firstWords}
 use Rattle.blocks.specs.FirstWords.{firstWords-at, length-firstWords}
-use Rattle.reader.specs.Reader.{encodeList}
 use Rattle.reader.specs.ReaderLaws.{stands-in, stands-at}
 use Rattle.sheet.specs.Module.{Handler}
 use Rattle.sheet.specs.Encode.{encodeHandler, encodeInst}
 use Rattle.sheet.specs.FuncCodes.{handlers-codes, insts-codes}
 use Rattle.code.specs.Code.{covers}
-use Rattle.region.specs.Region.{Off, Frame, wordAt}
-use Rattle.region.specs.RegionLaws.{frame-refl, frame-then}
+use Rattle.region.specs.Region.{Off, Frame}
+use Rattle.region.specs.RegionLaws.{frame-then}
 use Rattle.writing.specs.Writing.{written}
 use Rattle.writing.specs.WritingLaws.{written-by, written-then, written-length}
 use Rattle.table.specs.Records.{noHandler, catcher, catchTable}
@@ -29,7 +28,7 @@ use Rattle.opening.specs.Ready.{Ready}
 use Rattle.frames.specs.declared.Frame as frames
 use Rattle.frames.specs.Frames.{funcOf, Framed}
 use Rattle.catch_tables.specs.Catch.{within, lowest, catchAt, catches}
-use Rattle.catch_tables.specs.Painting.{Room, AllIn, AllOut}
+use Rattle.catch_tables.specs.Painting.{AllIn, AllOut}
 use Rattle.catch_tables.proofs.CatchLaws.{catches-length, catches-at}
 
 -- ── every position ──
@@ -169,6 +168,9 @@ module _ (b w : List ℕ) (o : Opened) (x : Ready (firstWords b (o .layout .word
     (room : at + length (catchTable (funcOf (firstWords b (o .layout .words)) c)) ≤ length u) (many : 8 < c .handlers) where
   pub many-room : at + 2 + c .code ≤ length u
   many-room = omega (arith, many-length b (o .layout .words) c y many)
+
+  pub first-room : at < length u
+  first-room = omega (arith, many-room)
 
   -- the numbers that the code makes are below the length of the lent words
   pub many-sums : (c .body .handlers + 1 + 4 * c .handlers ≤ length w) × (6 * o .layout .words + (c .code + 1) ≤ length w)

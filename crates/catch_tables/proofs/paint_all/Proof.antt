@@ -59,13 +59,12 @@ loop-again : tie.Need-loop-again Inv-loop μ-loop
 loop-again c =
     let n = c .before .before .before .before in
     let l = n .before .before .before .before .before .before .before .before .before in
-    let s = l .before .before .before .before in
-    (
+    let s = l .before .before .before .before in (
       omega (arith, n .before .before .before .before .before .before .before .before .loop-test .taken),
       all-step _ _ _ _ _ _ _ _ _ _ _ (s .pre .0) (l .loop .inv .1) _ _ _ _ (n .before .before .before .before .before .before .before .before .loop-test .taken)
-      (n .before .before .before .before .before .before .widen .ensures ∙ n .before .before .before .before .before .before .before .word .ensures)
-      (n .before .before .before .least .ensures ∙ ap (λ (z : ℕ). min z (s .args .len)) (n .before .before .before .before .widen2 .ensures ∙ n .before .before .before .before .before .word2 .ensures))
-      (n .paint .ensures),
+          (n .before .before .before .before .before .before .widen .ensures ∙ n .before .before .before .before .before .before .before .word .ensures)
+          (n .before .before .before .least .ensures ∙ ap (λ (z : ℕ). min z (s .args .len)) (n .before .before .before .before .widen2 .ensures ∙ n .before .before .before .before .before .word2 .ensures))
+          (n .paint .ensures),
     )
 
 same-length : tie.Need-same-length Inv-loop μ-loop

@@ -1,5 +1,6 @@
 -- `catch_tables::paint_next` meets its contract.
 use borrow.Author.Needs.{needs}
+use native.Mathlib.Omega.{arith}
 use Rattle.catch_tables.proofs.PaintSteps.{one-past, one-here}
 use Rattle.catch_tables.proofs.paint_next.Statement.{statement}
 use Rattle.catch_tables.proofs.paint_next.Tie as tie
@@ -14,7 +15,13 @@ same-length : tie.Need-same-length
 same-length c = search needs
 
 returns : tie.Need-returns
-returns c = search (needs, one-past)
+returns c =
+    let f = c .before .before .before in
+    let s = f .before .before .before .before in (
+      omega (arith, f .find .ensures .found .from),
+      omega (arith, f .find .ensures .found .to),
+      one-past _ _ _ _ _ _ _ _ _ (s .pre .0) (f .find .ensures) _ (omega (arith, c .if1 .taken)),
+    )
 
 add-put : tie.Need-add-put
 add-put c = search needs

@@ -2,23 +2,18 @@
 use borrow.Author.Needs.{needs}
 use native.Mathlib.Omega.{arith}
 use Rattle.region.specs.RegionLaws.{frame-refl}
-use Rattle.catch_tables.proofs.TableSteps.{few-room, few-written, few-end, many-room, many-sums, second-room, many-in, many-end, many-written, many-kept}
+use Rattle.catch_tables.proofs.TableSteps.{handlers-inside, few-room, few-written, few-end, many-room, first-room, second-room, many-in, many-end, many-written, many-kept}
 use Rattle.catch_tables.proofs.write_catches.Statement.{statement}
 use Rattle.catch_tables.proofs.write_catches.Tie as tie
 
 push-requires : tie.Need-push-requires
-push-requires c κs =
-    let s = c .before .before .before .before .before .before in
-    few-room _ _ _ (s .pre .1 .0) (s .args .table .now) _ (s .pre .1 .1) (c .before .if1 .taken)
+push-requires c κs = search (needs, few-room)
 
 same-length : tie.Need-same-length
 same-length c = search needs
 
 returns : tie.Need-returns
-returns c =
-    let p = c .before .before in
-    let s = c .before .before .before .before .before .before .before .before .before in
-    (few-written _ _ _ (s .pre .1 .0) _ _ _ (p .before .before .if1 .taken) (p .push .ensures .0), (few-end _ _ _ (s .pre .1 .0) _ _ (p .before .before .if1 .taken) (p .push .ensures .1), frame-refl _ _))
+returns c = search (needs, few-written, few-end, frame-refl)
 
 widen-requires : tie.Need-widen-requires
 widen-requires c κs = tt
@@ -28,43 +23,39 @@ widen-requires-2 c κs = tt
 
 push-requires-2 : tie.Need-push-requires-2
 push-requires-2 c κs =
-    let s = c .before .before .before .before .before .before .before .before in
-    omega (arith, many-room _ _ _ (s .pre .0) _ (s .pre .1 .0) (s .args .table .now) _ (s .pre .1 .1) (c .before .before .before .if1 .left))
+    let i = c .before .before .before in
+    let s = i .before .before .before .before .before in
+    first-room _ _ _ (s .pre .0) _ (s .pre .1 .0) (s .args .table .now) _ (s .pre .1 .1) (omega (arith, i .if1 .left))
 
 push-requires-3 : tie.Need-push-requires-3
-push-requires-3 c κs =
-    let s = c .before .before .before .before .before .before .before .before .before .before .before .before in
-    let p = c .before .before .before in
-    second-room _ _ _ (s .pre .0) _ (s .pre .1 .0) (s .args .table .now) _ (s .pre .1 .1) (c .before .before .before .before .before .before .before .if1 .left) _ _ (p .push2 .ensures .0) (p .push2 .ensures .1)
+push-requires-3 c κs = search (needs, second-room)
 
 add-write-positions : tie.Need-add-write-positions
 add-write-positions c =
     let s = c .before .before .before .before .before .before .before .before .before .before .before .before .before .before .before .before in
-    omega (arith, many-sums _ _ _ (s .pre .0) _ (s .pre .1 .0) (s .args .table .now) _ (s .pre .1 .1) (c .before .before .before .before .before .before .before .before .before .before .before .if1 .left))
+    omega (arith, handlers-inside _ _ _ (s .pre .1 .0), s .pre .0 .room, s .good .1 .0)
 
 mul-write-positions : tie.Need-mul-write-positions
 mul-write-positions c =
     let s = c .before .before .before .before .before .before .before .before .before .before .before .before .before .before .before .before .before .before .before in
-    omega (arith, many-sums _ _ _ (s .pre .0) _ (s .pre .1 .0) (s .args .table .now) _ (s .pre .1 .1) (c .before .before .before .before .before .before .before .before .before .before .before .before .before .before .if1 .left))
+    omega (arith, s .pre .0 .room, s .good .1 .0)
 
 write-positions-requires : tie.Need-write-positions-requires
 write-positions-requires c κs =
-    let s = c .before .before .before .before .before .before .before .before .before .before .before .before .before .before .before .before .before .before .before in
-    let i = c .before .before .before .before .before .before .before .before .before .before .before .before .before .before in
-    let p = c .before .before .before .before .before .before .before .before .before .before in
     let q = c .before .before .before .before .before .before in
-    many-in _ _ _ (s .pre .0) _ (s .pre .1 .0) (s .args .table .now) _ (s .pre .1 .1) (i .if1 .left) _ _ (p .push2 .ensures .0) (p .push2 .ensures .1) _ _ (q .push3 .ensures .0) (q .push3 .ensures .1) _ _ (c .before .before .before .before .before .before .before .before .before .before .before .before .before .widen .ensures) (c .before .before .before .before .before .before .before .before .before .before .before .before .widen2 .ensures)
-    (omega (arith, c .before .before .before .before .before .before .before .before .before .before .before .before .before .widen .ensures, c .before .before .before .before .before .before .before .before .before .before .before .before .before .before .before .struct-known .given))
-    (omega (arith, c .before .before .before .before .before .before .before .before .before .before .before .before .widen2 .ensures, c .before .before .before .before .before .before .before .before .before .before .before .before .before .before .before .struct-known .given))
-    (omega arith)
+    let p = q .before .before .before .before in
+    let i = p .before .before .before .before in
+    let s = i .before .before .before .before .before in
+    many-in _ _ _ (s .pre .0) _ (s .pre .1 .0) (s .args .table .now) _ (s .pre .1 .1) (omega (arith, i .if1 .left)) _ _ (p .push2 .ensures .0) (p .push2 .ensures .1) _ _ (q .push3 .ensures .0) (q .push3 .ensures .1) _ _ (p .before .before .before .widen .ensures) (p .before .before .widen2 .ensures)
+    (omega (arith, p .before .before .before .widen .ensures, i .before .struct-known .given)) (omega (arith, p .before .before .widen2 .ensures, i .before .struct-known .given)) (omega (arith, s .good .1 .0))
 
 add-result : tie.Need-add-result
 add-result c =
-    let s = c .before .before .before .before .before .before .before .before .before .before .before .before .before .before .before .before .before .before .before .before .before .before .before .before in
-    let i = c .before .before .before .before .before .before .before .before .before .before .before .before .before .before .before .before .before .before .before in
-    let p = c .before .before .before .before .before .before .before .before .before .before .before .before .before .before .before in
     let q = c .before .before .before .before .before .before .before .before .before .before .before in
-    omega (arith, many-room _ _ _ (s .pre .0) _ (s .pre .1 .0) (s .args .table .now) _ (s .pre .1 .1) (i .if1 .left), p .push2 .ensures .1, q .push3 .ensures .1, c .before .before .before .before .before .before .before .before .before .before .before .before .before .before .before .before .before .widen2 .ensures, s .good .1 .1 .1 .1 .0)
+    let p = q .before .before .before .before in
+    let i = p .before .before .before .before in
+    let s = i .before .before .before .before .before in
+    omega (arith, many-room _ _ _ (s .pre .0) _ (s .pre .1 .0) (s .args .table .now) _ (s .pre .1 .1) (omega (arith, i .if1 .left)), p .push2 .ensures .1, q .push3 .ensures .1, p .before .before .widen2 .ensures, s .good .1 .1 .1 .1 .0)
 
 same-length-2 : tie.Need-same-length-2
 same-length-2 c = search needs
@@ -74,17 +65,13 @@ same-length-3 c = search needs
 
 returns-2 : tie.Need-returns-2
 returns-2 c =
-    let s = c .before .before .before .before .before .before .before .before .before .before .before .before .before .before .before .before .before .before .before .before .before .before .before .before in
-    let i = c .before .before .before .before .before .before .before .before .before .before .before .before .before .before .before .before .before .before .before in
-    let p = c .before .before .before .before .before .before .before .before .before .before .before .before .before .before .before in
-    let q = c .before .before .before .before .before .before .before .before .before .before .before in
-    let z = c .before .before .before .before in
-    (
-      many-written _ _ _ (s .pre .0) _ (s .pre .1 .0) (s .args .table .now) _ (s .pre .1 .1) (i .if1 .left) _ _ (p .push2 .ensures .0) (p .push2 .ensures .1) _ _ (q .push3 .ensures .0) (q .push3 .ensures .1) _ _ (c .before .before .before .before .before .before .before .before .before .before .before .before .before .before .before .before .before .before .widen .ensures) (c .before .before .before .before .before .before .before .before .before .before .before .before .before .before .before .before .before .widen2 .ensures) _ (z .write-positions .ensures .0),
-      (
-        many-end _ _ _ (s .pre .0) _ (s .pre .1 .0) (s .args .table .now) _ (s .pre .1 .1) (i .if1 .left) _ _ (p .push2 .ensures .0) (p .push2 .ensures .1) _ _ (q .push3 .ensures .0) (q .push3 .ensures .1) _ _ (c .before .before .before .before .before .before .before .before .before .before .before .before .before .before .before .before .before .before .widen .ensures) (c .before .before .before .before .before .before .before .before .before .before .before .before .before .before .before .before .before .widen2 .ensures),
-        many-kept _ _ _ (s .pre .0) _ (s .pre .1 .0) (s .args .table .now) _ (s .pre .1 .1) (i .if1 .left) _ _ (p .push2 .ensures .0) (p .push2 .ensures .1) _ _ (q .push3 .ensures .0) (q .push3 .ensures .1) _ _ (c .before .before .before .before .before .before .before .before .before .before .before .before .before .before .before .before .before .before .widen .ensures) (c .before .before .before .before .before .before .before .before .before .before .before .before .before .before .before .before .before .widen2 .ensures) _ (z .write-positions .ensures .1),
-      ),
+    let w = c .before .before .before .before in
+    let q = w .before .before .before .before .before .before .before in
+    let p = q .before .before .before .before in
+    let i = p .before .before .before .before in
+    let s = i .before .before .before .before .before in (
+      many-written _ _ _ (s .pre .0) _ (s .pre .1 .0) (s .args .table .now) _ (s .pre .1 .1) (omega (arith, i .if1 .left)) _ _ (p .push2 .ensures .0) (p .push2 .ensures .1) _ _ (q .push3 .ensures .0) (q .push3 .ensures .1) _ _ (p .before .before .before .widen .ensures) (p .before .before .widen2 .ensures) _ (w .write-positions .ensures .0),
+      (many-end _ _ _ (s .pre .0) _ (s .pre .1 .0) (s .args .table .now) _ (s .pre .1 .1) (omega (arith, i .if1 .left)) _ _ (p .push2 .ensures .0) (p .push2 .ensures .1) _ _ (q .push3 .ensures .0) (q .push3 .ensures .1) _ _ (p .before .before .before .widen .ensures) (p .before .before .widen2 .ensures), many-kept _ _ _ (s .pre .0) _ (s .pre .1 .0) (s .args .table .now) _ (s .pre .1 .1) (omega (arith, i .if1 .left)) _ _ (p .push2 .ensures .0) (p .push2 .ensures .1) _ _ (q .push3 .ensures .0) (q .push3 .ensures .1) _ _ (p .before .before .before .widen .ensures) (p .before .before .widen2 .ensures) _ (w .write-positions .ensures .1)),
     )
 
 pub write-catches-spec : {M : Type 1} → statement M

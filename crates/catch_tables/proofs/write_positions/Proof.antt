@@ -29,8 +29,7 @@ returns : tie.Need-returns
 returns c =
     let p = c .before .before .before .before in
     let n = p .before .before .before .before .before in
-    let f = n .before .before .before .before in
-    (
+    let f = n .before .before .before .before in (
       whole-table _ _ _ _ _ _ _ _ _ _ (f .before .before .before .before .before .pre) (f .fill .ensures .0) (n .count-up .ensures .0) _ _ (p .paint-all .ensures),
       whole-links _ _ _ _ _ _ _ _ _ _ (f .before .before .before .before .before .pre) (f .fill .ensures .0) (n .count-up .ensures .0) _ _ (p .paint-all .ensures),
     )
