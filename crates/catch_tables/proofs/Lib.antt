@@ -1,0 +1,5 @@
+pub mod CatchLaws
+pub mod LinkLaws
+pub mod PaintLaws
+pub mod PaintSteps
+pub mod TableSteps

@@ -1,0 +1,3 @@
+pub mod Catch
+pub mod Links
+pub mod Painting
