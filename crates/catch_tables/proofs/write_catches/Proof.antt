@@ -7,13 +7,22 @@ use Rattle.catch_tables.proofs.write_catches.Statement.{statement}
 use Rattle.catch_tables.proofs.write_catches.Tie as tie
 
 push-requires : tie.Need-push-requires
-push-requires c κs = search (needs, few-room)
+push-requires c κs =
+    let i = c .before in
+    let s = i .before .before .before .before .before in
+    few-room _ _ _ (s .pre .1 .0) (s .args .table .now) _ (s .pre .1 .1) (omega (arith, i .if1 .taken))
 
 same-length : tie.Need-same-length
 same-length c = search needs
 
 returns : tie.Need-returns
-returns c = search (needs, few-written, few-end, frame-refl)
+returns c =
+    let p = c .before .before in
+    let i = p .before .before in
+    let s = i .before .before .before .before .before in (
+      few-written _ _ _ (s .pre .1 .0) _ _ _ (omega (arith, i .if1 .taken)) (p .push .ensures .0),
+      (few-end _ _ _ (s .pre .1 .0) _ _ (omega (arith, i .if1 .taken)) (p .push .ensures .1), frame-refl _ _),
+    )
 
 widen-requires : tie.Need-widen-requires
 widen-requires c κs = tt
@@ -28,7 +37,11 @@ push-requires-2 c κs =
     first-room _ _ _ (s .pre .0) _ (s .pre .1 .0) (s .args .table .now) _ (s .pre .1 .1) (omega (arith, i .if1 .left))
 
 push-requires-3 : tie.Need-push-requires-3
-push-requires-3 c κs = search (needs, second-room)
+push-requires-3 c κs =
+    let p = c .before .before .before in
+    let i = p .before .before .before .before in
+    let s = i .before .before .before .before .before in
+    second-room _ _ _ (s .pre .0) _ (s .pre .1 .0) (s .args .table .now) _ (s .pre .1 .1) (omega (arith, i .if1 .left)) _ _ (p .push2 .ensures .0) (p .push2 .ensures .1)
 
 add-write-positions : tie.Need-add-write-positions
 add-write-positions c =
