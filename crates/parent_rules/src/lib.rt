@@ -30,7 +30,7 @@ fn type_word(sheet: &[u8], work: &[u32], o: Opened, t: TypeId, i: usize) -> u32
     word(sheet, type_at(work, o, t) + i)
 }
 
-fn is_struct(sheet: &[u8], work: &[u32], o: Opened, t: TypeId) -> bool
+pub fn is_struct(sheet: &[u8], work: &[u32], o: Opened, t: TypeId) -> bool
     requires { ⌜ Ready (firstWords (now sheet) (o .layout .words)) (now work) o ⌝ }
     ensures { λ r. ⌜ r ≡ isStruct (typeAt (moduleIn (firstWords (now (sheet .entry)) (o .layout .words)) .types) (t .0)) ⌝ }
 {
@@ -41,7 +41,7 @@ fn is_struct(sheet: &[u8], work: &[u32], o: Opened, t: TypeId) -> bool
 }
 
 // The parent + 1; 0 for none, and of what is no struct.
-fn parent_of(sheet: &[u8], work: &[u32], o: Opened, t: TypeId) -> u32
+pub fn parent_of(sheet: &[u8], work: &[u32], o: Opened, t: TypeId) -> u32
     requires { ⌜ Ready (firstWords (now sheet) (o .layout .words)) (now work) o ⌝ }
     ensures { λ r. ⌜ r ≡ parentWord (typeAt (moduleIn (firstWords (now (sheet .entry)) (o .layout .words)) .types) (t .0)) ⌝ }
 {

@@ -1,0 +1,4 @@
+pub mod Lists
+pub mod BlankSteps
+pub mod WalkSteps
+pub mod Section
