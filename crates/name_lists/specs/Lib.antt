@@ -2,3 +2,4 @@ pub mod Merge
 pub mod MergeLaws
 pub mod Steps
 pub mod PairLaws
+pub mod Names
