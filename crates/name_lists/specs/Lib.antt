@@ -1,0 +1,5 @@
+pub mod Merge
+pub mod MergeLaws
+pub mod Steps
+pub mod PairLaws
+pub mod Names
