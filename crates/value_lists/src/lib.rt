@@ -1,0 +1,47 @@
+// Lists of the linked table: value types and the references among them, names, type refs; each after its count.
+ghost use mathlib.Core.Path.{_≡_};
+ghost use mathlib.Core.List.{[], map};
+ghost use Prim.Native.Nat.{_+_, _*_, _≤_, _<_, min};
+ghost use lib.ListN.{length};
+ghost use Rattle.blocks.specs.Frame.{firstWords};
+ghost use Rattle.reader.specs.Reader.{encodeWords};
+ghost use Rattle.reader.specs.Value.{Whole, valueOf};
+ghost use Rattle.sheet.specs.Module.{dyn};
+ghost use Rattle.sheet.specs.Decode.{valueType};
+ghost use Rattle.canon.specs.Canon.{canonWord};
+ghost use Rattle.layout.specs.Opened.{moduleIn};
+ghost use Rattle.opening.specs.Ready.{Ready};
+ghost use Rattle.table.specs.Records.{references};
+ghost use Rattle.writing.specs.Writing.{written};
+ghost use Rattle.value_lists.specs.Values.{valuesAt, Values, Present, placeWords};
+use blocks::word;
+use opening::Opened;
+use param_registers::canon_at;
+use writing::push;
+
+// The count, then each value type's canonical word.
+pub fn write_values(
+    sheet: &[u8],
+    work: &[u32],
+    o: Opened,
+    first: usize,
+    stride: usize,
+    n: u32,
+    table: &mut [u32],
+    at: usize,
+) -> usize
+    requires { ⌜ Ready (firstWords (now sheet) (o .layout .words)) (now work) o ⌝ }
+    requires { ⌜ Values (firstWords (now sheet) (o .layout .words)) first stride n ⌝ }
+    requires { ⌜ at + 1 + n ≤ length (now table) ⌝ }
+    ensures { λ r. ⌜ now (table .exit) ≡ written (now (table .entry)) at (encodeWords (map (canonWord (moduleIn (firstWords (now (sheet .entry)) (o .layout .words)) .types)) (valuesAt (firstWords (now (sheet .entry)) (o .layout .words)) first stride n))) ⌝ }
+    ensures { λ r. ⌜ r ≡ at + length (encodeWords (map (canonWord (moduleIn (firstWords (now (sheet .entry)) (o .layout .words)) .types)) (valuesAt (firstWords (now (sheet .entry)) (o .layout .words)) first stride n))) ⌝ }
+{
+    let mut p = push(table, at, n);
+    let mut i = 0;
+    while i < n {
+        let w = canon_at(sheet, work, o, first + stride * i as usize);
+        p = push(table, p, w);
+        i += 1;
+    }
+    p
+}
