@@ -18,7 +18,7 @@ push-requires : tie.Need-push-requires Inv-loop μ-loop
 push-requires c κs = omega arith
 
 loop-holds : tie.Need-loop-holds Inv-loop μ-loop
-loop-holds c = search (needs, value-whole, value-clear, canons-start, canons-room, canons-next, canons-end, canons-place)
+loop-holds c = search (needs, canons-start)
 
 cast-canon-at : tie.Need-cast-canon-at Inv-loop μ-loop
 cast-canon-at c = search needs
@@ -30,10 +30,10 @@ add-canon-at : tie.Need-add-canon-at Inv-loop μ-loop
 add-canon-at c = omega (arith, value-in _ _ _ _ _ (c .before .before .before .before .before .before .before .before .before .pre .1 .0) _ (c .loop-test .taken))
 
 canon-at-requires : tie.Need-canon-at-requires Inv-loop μ-loop
-canon-at-requires c κs = search (needs, value-whole, value-clear, canons-start, canons-room, canons-next, canons-end, canons-place)
+canon-at-requires c κs = search (needs, value-whole, value-clear)
 
 push-requires-2 : tie.Need-push-requires-2 Inv-loop μ-loop
-push-requires-2 c κs = search (needs, value-whole, value-clear, canons-start, canons-room, canons-next, canons-end, canons-place)
+push-requires-2 c κs = search (needs, canons-room)
 
 add-i : tie.Need-add-i Inv-loop μ-loop
 add-i c = search needs
@@ -42,13 +42,13 @@ loop-less : tie.Need-loop-less Inv-loop μ-loop
 loop-less c = search needs
 
 loop-again : tie.Need-loop-again Inv-loop μ-loop
-loop-again c = search (needs, value-whole, value-clear, canons-start, canons-room, canons-next, canons-end, canons-place)
+loop-again c = search (needs, canons-next)
 
 same-length : tie.Need-same-length Inv-loop μ-loop
 same-length c = canons-kept _ _ _ _ _ _ _ (c .before .before .before .before .before .before .before .before .before .pre .1 .1) _ _ (c .before .before .before .before .push .ensures .0) (c .before .before .before .before .push .ensures .1) _ _ _ (c .before .loop .inv)
 
 returns : tie.Need-returns Inv-loop μ-loop
-returns c = search (needs, value-whole, value-clear, canons-start, canons-room, canons-next, canons-end, canons-place)
+returns c = search (needs, canons-end, canons-place)
 
 pub write-values-spec : {M : Type 1} → statement M
 write-values-spec =
