@@ -18,7 +18,7 @@ use Rattle.sheet.specs.Decode.{valueType}
 use Rattle.table.specs.Records.{references}
 use Rattle.param_registers.specs.ValueWords.{value-word}
 use Rattle.writing.specs.Writing.{written, wordsOf, Writes}
-use Rattle.writing.specs.WritingLaws.{written-none, writes-start, writes-next, writes-room, writes-length, writes-end, writes-place, words-fit}
+use Rattle.writing.specs.WritingLaws.{written-none, writes-start, writes-next, writes-room, writes-length, writes-end, writes-place}
 use Rattle.writing.specs.CountedLaws.{count-last}
 use Rattle.value_lists.specs.Values.{valuesAt, Present, placeWords}
 use Rattle.value_lists.specs.ValuesLaws.{values-length}
@@ -100,3 +100,57 @@ module _ (most : ℕ) (ws : List ℕ) (first stride n : ℕ) where
   pub record Places (w : List ℕ) (at i : ℕ) (v : List ℕ) (p : ℕ) : Type 0 where
     pub few : i ≤ n
     pub writes : Writes (placeAt most ws first stride) (from 0 n) w (at + 1) i v p
+
+  pub places-start : (w : List ℕ) (at : ℕ) → Places w at 0 w (at + 1)
+  places-start w at = record { few = omega arith; writes = writes-start (placeAt most ws first stride) (from 0 n) w (at + 1) }
+
+  module _ (w : List ℕ) (at : ℕ) (h : at + length (encodeWords (map (min most) (references (valuesAt ws first stride n)))) ≤ length w) where
+    room : at + 1 + length (wordsOf (placeAt most ws first stride) (from 0 n)) ≤ length w
+    unfolding placed
+    room = omega (arith, ap length placed-words)
+
+    module _ (i : ℕ) (v : List ℕ) (p : ℕ) (x : Places w at i v p) where
+      pub places-kept : length v ≡ length w
+      places-kept = writes-length (placeAt most ws first stride) (from 0 n) w (at + 1) i v p (x .writes) room
+
+      module _ (l : i < n) where
+        here : placeAt most ws first stride (getD (from 0 n) i 0) ≡ placeWords most i (valueOf dyn (valueType ws (first + stride * i)))
+        unfolding placeAt
+        here = let z : getD (from 0 n) i 0 ≡ i = getD-from 0 n i l ∙ omega arith in ap (placeAt most ws first stride) z
+
+        inside : i < length (from 0 n)
+        inside = omega (arith, length-from 0 n)
+
+        pub places-room : p + length (placeWords most i (valueOf dyn (valueType ws (first + stride * i)))) ≤ length v
+        places-room = omega (arith, writes-room (placeAt most ws first stride) (from 0 n) w (at + 1) i v p 0 (x .writes) inside room, ap length here)
+
+        pub places-next : {v' : List ℕ} {p' : ℕ} → v' ≡ written v p (placeWords most i (valueOf dyn (valueType ws (first + stride * i))))
+            → p' ≡ p + length (placeWords most i (valueOf dyn (valueType ws (first + stride * i)))) → Places w at (i + 1) v' p'
+        places-next {v'} {p'} e k = record {
+          few = omega arith;
+          writes = writes-next (placeAt most ws first stride) (from 0 n) w (at + 1) i v p v' p' 0 (omega (arith, room)) inside (x .writes)
+              (e ∙ ap (written v p) (sym here)) (k ∙ ap (λ y. p + length y) (sym here));
+        }
+
+      pub places-after : at + 1 ≤ p
+      places-after = omega (arith, x .writes .end)
+
+      module _ (l : n ≤ i) where
+        all-passed : i ≡ length (from 0 n)
+        all-passed = omega (arith, x .few, length-from 0 n)
+
+        pub places-place : p ≡ at + length (encodeWords (map (min most) (references (valuesAt ws first stride n))))
+        unfolding placed
+        places-place = omega (arith, writes-place (placeAt most ws first stride) (from 0 n) w (at + 1) i v p (x .writes) all-passed, ap length placed-words)
+
+        pub places-few : p - at - 1 ≤ n
+        unfolding placed
+        places-few = omega (arith, places-place, placed-few)
+
+        pub places-end : {v' : List ℕ} → v' ≡ written v at ((p - at - 1) ∷ []) → v' ≡ written w at (encodeWords (map (min most) (references (valuesAt ws first stride n))))
+        unfolding placed
+        places-end e =
+            let c : p - at - 1 ≡ length (map (min most) (references (valuesAt ws first stride n))) = omega (arith, places-place) in
+            e
+            ∙ ap₂ (λ u k. written u at (k ∷ [])) (writes-end (placeAt most ws first stride) (from 0 n) w (at + 1) i v p (x .writes) all-passed ∙ ap (written w (at + 1)) placed-words) c
+            ∙ count-last w at (map (min most) (references (valuesAt ws first stride n))) (length (map (min most) (references (valuesAt ws first stride n)))) (omega (arith, h))

@@ -24,6 +24,9 @@ use Rattle.value_lists.specs.ValuesLaws.{values-length, values-at}
 pub present-within : (b : List ℕ) (m first stride n : ℕ) → Present (firstWords b m) first stride n → (i : ℕ) → i < n → first + stride * i < m
 present-within b m first stride n x i l = whole-inv (valueType (firstWords b m) (first + stride * i)) (x .whole i l) λ v q e. value-within b m (first + stride * i) e
 
+pub present-whole : (ws : List ℕ) (first stride n : ℕ) → Present ws first stride n → (i : ℕ) → i < n → Whole (valueType ws (first + stride * i))
+present-whole ws first stride n x i l = x .whole i l
+
 module _ (b : List ℕ) (m first stride n : ℕ) (x : Values (firstWords b m) first stride n) (i : ℕ) (l : i < n) where
   pub value-in : first + stride * i < m
   value-in = present-within b m first stride n (record { whole = x .whole }) i l

@@ -10,10 +10,10 @@ use Rattle.value_lists.proofs.write_names.Statement.{statement}
 use Rattle.value_lists.proofs.write_names.Tie as tie
 
 abbrev Inv-loop : tie.InvT-loop
-Inv-loop sheet work o names-at table₀ at n p₀ i₀ table p i = Numbers (canonString (moduleIn (firstWords sheet (o .layout .words)) .strings)) (firstWords sheet (o .layout .words)) names-at n table₀ p₀ i table p
+Inv-loop sheet work o names-at table₀ at count p₀ i₀ table p i = Numbers (canonString (moduleIn (firstWords sheet (o .layout .words)) .strings)) (firstWords sheet (o .layout .words)) names-at count table₀ p₀ i table p
 
 abbrev μ-loop : tie.MeasureT-loop
-μ-loop sheet work o names-at table₀ at n p₀ i₀ table p i = n - i
+μ-loop sheet work o names-at table₀ at count p₀ i₀ table p i = count - i
 
 word-requires : tie.Need-word-requires Inv-loop μ-loop
 word-requires c κs = search needs

@@ -10,10 +10,10 @@ use Rattle.value_lists.proofs.write_type_refs.Statement.{statement}
 use Rattle.value_lists.proofs.write_type_refs.Tie as tie
 
 abbrev Inv-loop : tie.InvT-loop
-Inv-loop sheet work o refs-at table₀ at n p₀ i₀ table p i = Numbers (canonType (moduleIn (firstWords sheet (o .layout .words)) .types)) (firstWords sheet (o .layout .words)) refs-at n table₀ p₀ i table p
+Inv-loop sheet work o refs-at table₀ at count p₀ i₀ table p i = Numbers (canonType (moduleIn (firstWords sheet (o .layout .words)) .types)) (firstWords sheet (o .layout .words)) refs-at count table₀ p₀ i table p
 
 abbrev μ-loop : tie.MeasureT-loop
-μ-loop sheet work o refs-at table₀ at n p₀ i₀ table p i = n - i
+μ-loop sheet work o refs-at table₀ at count p₀ i₀ table p i = count - i
 
 word-requires : tie.Need-word-requires Inv-loop μ-loop
 word-requires c κs = search needs
