@@ -8,17 +8,12 @@ use lib.ListN.{length, getD}
 use borrow.Author.Tests.{ltb-true}
 use Rattle.blocks.specs.Blocks.{words}
 use Rattle.blocks.specs.Frame.{firstWords}
-use Rattle.blocks.specs.FirstWords.{length-firstWords, firstWords-at}
 use Rattle.error.specs.declared.What.the-variants.{Types}
 use Rattle.faults.specs.Empty.{range-empty}
-use Rattle.reader.specs.Reader.{got}
-use Rattle.reader.specs.ReaderLaws.{stands-in}
-use Rattle.reader.specs.ReadLaws.{read-at}
 use Rattle.reader.specs.Value.{Whole, valueOf}
 use Rattle.reader.specs.ValueLaws.{whole-inv, value-got}
 use Rattle.sheet.specs.Module.{ValueType, basic, ref, dyn, valueWord, TypeDef, Module}
 use Rattle.sheet.specs.Decode.{basicTypes, valueType}
-use Rattle.sheet.specs.Encode.{encodeValue}
 use Rattle.sheet.specs.Coded.{codedValue}
 use Rattle.sheet.specs.TypeCodes.{value-codes}
 use Rattle.canon.specs.Canon.{canonType, canonValue, canonWord}
@@ -28,22 +23,7 @@ use Rattle.layout.specs.Opened.{moduleIn}
 use Rattle.opening.specs.declared.Opened.{Opened}
 use Rattle.opening.specs.Ready.{Ready, posAt}
 use Rattle.opening.specs.ReadyLaws.{types-inside, type-canon}
-
--- ── a value type that was read ──
-
-module _ (b : List ℕ) (n at : ℕ) {v : ValueType} {q : ℕ} (e : valueType (firstWords b n) at ≡ got v q) where
-  pub value-within : at < n
-  unfolding encodeValue
-  value-within =
-      let s = value-codes (firstWords b n) .found at v q e .stands in
-      omega (arith, stands-in (firstWords b n) s, s .end, length-firstWords b n)
-
-  value-word : getD (words b) at 0 ≡ valueWord v
-  unfolding encodeValue
-  value-word =
-      let z : at ≡ at + 0 = omega arith in
-      sym (firstWords-at b n at value-within) ∙ ap (λ k. getD (firstWords b n) k 0) z
-      ∙ read-at (firstWords b n) valueType encodeValue codedValue (value-codes (firstWords b n)) at v q e 0 (omega arith)
+use Rattle.param_registers.specs.ValueWords.{value-word}
 
 -- ── by its word ──
 

@@ -27,7 +27,7 @@ use Rattle.canon.specs.Canon.{canonWord}
 use Rattle.types.specs.Types.{valueFaults}
 use Rattle.funcs.specs.Funcs.{paramsFirst}
 use Rattle.judging.specs.Judging.{listFaults}
-use Rattle.param_registers.proofs.CanonSteps.{value-within}
+use Rattle.param_registers.specs.ValueWords.{value-within}
 
 -- ── member i of a list, each a word ──
 

@@ -18,7 +18,7 @@ use opening::Opened;
 use opening::canon_type;
 
 // The canonical word of the value type at a position.
-fn canon_at(sheet: &[u8], work: &[u32], o: Opened, at: usize) -> u32
+pub fn canon_at(sheet: &[u8], work: &[u32], o: Opened, at: usize) -> u32
     requires { ⌜ Ready (firstWords (now sheet) (o .layout .words)) (now work) o ⌝ }
     requires { ⌜ Whole (valueType (firstWords (now sheet) (o .layout .words)) at) ⌝ }
     requires { ⌜ valueFaults (moduleIn (firstWords (now sheet) (o .layout .words))) (valueOf dyn (valueType (firstWords (now sheet) (o .layout .words)) at)) ≡ [] ⌝ }
