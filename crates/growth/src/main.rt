@@ -1,13 +1,18 @@
-// Builds sheets of many members in memory and prints what the rules up to 4 answer: the arguments come in threes.
-// First the mode: `build` builds only and prints the sheet's words; `judge` judges with just as many words of work as are needed,
+// Builds sheets of many members and their host lists in memory and prints what the rules answer: the arguments come in threes.
+// First the mode: `build` builds only and prints the words of both; `judge` judges with just as many words of work as are needed,
 // `tight` with one word less. Then the shape and how many members it has. Modes and shapes go by their first letter.
 ghost use Prim.Native.Nat.{_≤_, _<_};
 use error::numbers::SixNumbers;
+use error::numbers::numbers;
 use libc::STDOUT_FILENO;
-use shapes::blocks_of;
 use shapes::build;
+use shapes::build_hosts;
+use words::blocks_of;
 
+mod function;
+mod members;
 mod shapes;
+mod words;
 
 fn print_number(n: u64) {
     io::write_all(STDOUT_FILENO, b" ");
@@ -23,20 +28,33 @@ fn print_numbers(n: SixNumbers) {
     print_number(n.pc as u64);
 }
 
-fn judge(sheet: &[u8], work: &mut [u32]) {
-    print_numbers(error::numbers::numbers(rules::judge_front(sheet, work)));
+fn judge(sheet: &[u8], hosts: &[u8], work: &mut [u32]) {
+    print_numbers(numbers(rules::answer::judge(sheet, hosts, work)));
 }
 
-// Work is the first words of what was lent, and the sheet the first bytes.
-fn judge_in(sheet: &[u8], work: &mut [u32], words: usize) {
+// Sheet, host list and work are the first bytes and words of what was lent.
+fn judge_in(sheet: &[u8], hosts: &[u8], work: &mut [u32], words: usize) {
     if words <= work.len() {
-        judge(sheet, &mut work[..words]);
+        judge(sheet, hosts, &mut work[..words]);
     }
 }
 
-fn judge_first(sheet: &[u8], bytes: usize, work: &mut [u32], words: usize) {
+fn judge_under(sheet: &[u8], hosts: &[u8], listed: usize, work: &mut [u32], words: usize) {
+    if listed <= hosts.len() {
+        judge_in(sheet, &hosts[..listed], work, words);
+    }
+}
+
+fn judge_first(
+    sheet: &[u8],
+    bytes: usize,
+    hosts: &[u8],
+    listed: usize,
+    work: &mut [u32],
+    words: usize,
+) {
     if bytes <= sheet.len() {
-        judge_in(&sheet[..bytes], work, words);
+        judge_under(&sheet[..bytes], hosts, listed, work, words);
     }
 }
 
@@ -51,24 +69,41 @@ fn work_words(mode: u8, words: usize) -> usize {
     64 + 8 * words
 }
 
-fn run(sheet: &mut [u8], work: &mut [u32], mode: u8, shape: u8, n: u32) {
+fn run(sheet: &mut [u8], hosts: &mut [u8], work: &mut [u32], mode: u8, shape: u8, n: u32) {
     let words = build(sheet, shape, n);
+    let listed = build_hosts(hosts, shape, n);
     if mode == b'b' {
         print_number(words as u64);
+        print_number(listed as u64);
     } else {
-        judge_first(sheet, 512 * blocks_of(words), work, work_words(mode, words));
+        judge_first(
+            sheet,
+            512 * blocks_of(words),
+            hosts,
+            512 * blocks_of(listed),
+            work,
+            work_words(mode, words),
+        );
     }
 }
 
-// A stack of 8 MB holds 1,044 blocks and the work for their 132,588 words.
+// A stack of 8 MB holds 1,044 blocks, the work for their 132,588 words, and a host list of 400 blocks.
 fn run_shape(mode: u8, shape: u8, n: u32) {
     let mut sheet = [0u8; 534528];
+    let mut hosts = [0u8; 204800];
     let mut work = [0u32; 1060768];
-    run_in(&mut sheet, &mut work, mode, shape, n);
+    run_in(&mut sheet, &mut hosts, &mut work, mode, shape, n);
 }
 
-fn run_in(sheet: &mut [u8; 534528], work: &mut [u32; 1060768], mode: u8, shape: u8, n: u32) {
-    run(sheet, work, mode, shape, n);
+fn run_in(
+    sheet: &mut [u8; 534528],
+    hosts: &mut [u8; 204800],
+    work: &mut [u32; 1060768],
+    mode: u8,
+    shape: u8,
+    n: u32,
+) {
+    run(sheet, hosts, work, mode, shape, n);
 }
 
 // The number that the first bytes of an argument spell, up to six digits.

@@ -5,11 +5,11 @@ use lib.ListN.{length-take}
 use Rattle.growth.proofs.judge_first.Statement.{statement}
 use Rattle.growth.proofs.judge_first.Tie as tie
 
-slice-aggregate-judge-in : tie.Need-slice-aggregate-judge-in
-slice-aggregate-judge-in c = omega (arith, length-take (c .before .before .before .before .args .bytes) (c .before .before .before .before .args .sheet .now))
+slice-aggregate-judge-under : tie.Need-slice-aggregate-judge-under
+slice-aggregate-judge-under c = omega (arith, length-take (c .before .before .before .before .before .args .bytes) (c .before .before .before .before .before .args .sheet .now))
 
-judge-in-requires : tie.Need-judge-in-requires
-judge-in-requires c κs = search needs
+judge-under-requires : tie.Need-judge-under-requires
+judge-under-requires c κs = search needs
 
 same-length : tie.Need-same-length
 same-length c = search needs
@@ -22,4 +22,4 @@ returns-2 c = search needs
 
 pub judge-first-spec : {M : Type 1} → statement M
 judge-first-spec =
-    tie.close (tie.spec slice-aggregate-judge-in judge-in-requires same-length returns returns-2)
+    tie.close (tie.spec slice-aggregate-judge-under judge-under-requires same-length returns returns-2)

@@ -9,7 +9,7 @@ slice-relend-prefix-judge : tie.Need-slice-relend-prefix-judge
 slice-relend-prefix-judge c = search needs
 
 slice-aggregate-judge : tie.Need-slice-aggregate-judge
-slice-aggregate-judge c = omega (arith, length-take (c .before .before .before .before .args .words) (c .before .before .before .before .args .work .now))
+slice-aggregate-judge c = omega (arith, length-take (c .before .before .before .before .before .args .words) (c .before .before .before .before .before .args .work .now))
 
 judge-requires : tie.Need-judge-requires
 judge-requires c κs = search needs

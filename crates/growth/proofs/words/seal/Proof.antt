@@ -1,11 +1,11 @@
--- `growth::shapes::seal` meets its contract.
+-- `growth::words::seal` meets its contract.
 use borrow.Author.Needs.{needs}
 use native.Mathlib.Omega.{arith}
 use mathlib.Core.Path.{_≡_}
 use Prim.Native.Nat.{_≤_, _-_}
 use lib.ListN.{length}
-use Rattle.growth.proofs.shapes.seal.Statement.{statement}
-use Rattle.growth.proofs.shapes.seal.Tie as tie
+use Rattle.growth.proofs.words.seal.Statement.{statement}
+use Rattle.growth.proofs.words.seal.Tie as tie
 
 abbrev Inv-loop : tie.InvT-loop
 Inv-loop sheet₀ blocks k₀ sheet k = (k ≤ blocks) × (length sheet ≡ length sheet₀)

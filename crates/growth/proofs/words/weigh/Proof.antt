@@ -1,9 +1,9 @@
--- `growth::shapes::weigh` meets its contract.
+-- `growth::words::weigh` meets its contract.
 use borrow.Author.Needs.{needs}
 use native.Mathlib.Omega.{arith}
 use Prim.Native.Nat.{_+_, _*_, _≤_, _<_}
-use Rattle.growth.proofs.shapes.weigh.Statement.{statement}
-use Rattle.growth.proofs.shapes.weigh.Tie as tie
+use Rattle.growth.proofs.words.weigh.Statement.{statement}
+use Rattle.growth.proofs.words.weigh.Tie as tie
 
 abbrev Inv-loop : tie.InvT-loop
 Inv-loop sheet at left₀ tail₀ sum₀ left tail sum = (left ≤ 508) × (tail + 255 * left ≤ 129540) × (sum < 65521)

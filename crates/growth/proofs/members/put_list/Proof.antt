@@ -1,26 +1,23 @@
--- `growth::shapes::put_list` meets its contract.
+-- `growth::members::put_list` meets its contract.
 use borrow.Author.Needs.{needs}
 use native.Mathlib.Omega.{arith}
 use mathlib.Core.Path.{_≡_}
 use Prim.Native.Nat.{_≤_, _-_}
 use lib.ListN.{length}
-use Rattle.growth.proofs.shapes.put_list.Statement.{statement}
-use Rattle.growth.proofs.shapes.put_list.Tie as tie
+use Rattle.growth.proofs.members.put_list.Statement.{statement}
+use Rattle.growth.proofs.members.put_list.Tie as tie
 
 abbrev Inv-loop : tie.InvT-loop
-Inv-loop sheet₀ at shape n k₀ i₀ sheet k i = (i ≤ n) × (length sheet ≡ length sheet₀)
+Inv-loop sheet₀ at m n k₀ i₀ sheet k i = (i ≤ n) × (length sheet ≡ length sheet₀)
 
 abbrev μ-loop : tie.MeasureT-loop
-μ-loop sheet₀ at shape n k₀ i₀ sheet k i = n - i
+μ-loop sheet₀ at m n k₀ i₀ sheet k i = n - i
 
 put-requires : tie.Need-put-requires Inv-loop μ-loop
 put-requires c κs = search needs
 
 loop-holds : tie.Need-loop-holds Inv-loop μ-loop
 loop-holds c = search needs
-
-sub-put-member : tie.Need-sub-put-member Inv-loop μ-loop
-sub-put-member c = search needs
 
 put-member-requires : tie.Need-put-member-requires Inv-loop μ-loop
 put-member-requires c κs = search needs
@@ -48,7 +45,6 @@ put-list-spec =
     μ-loop
     put-requires
     loop-holds
-    sub-put-member
     put-member-requires
     add-i
     loop-less
