@@ -1,5 +1,5 @@
 -- Spans of no struct, one after the other.
-use mathlib.Core.Path.{_≡_, refl, ap, ap₂, subst, _∙_}
+use mathlib.Core.Path.{_≡_, ap, ap₂, subst, _∙_}
 use mathlib.Core.List.{List}
 use Prim.Native.Nat.{ℕ, _+_, _*_, _≤_, _<_}
 use native.Mathlib.Omega.{arith}
@@ -7,7 +7,7 @@ use native.Mathlib.Decide.{decLt}
 use lib.ListN.{length, getD, set, length-set}
 use lib.Seq.{getD-set-same, getD-set-other}
 use Rattle.spans.specs.Spans.{noPre, noPost}
-use Rattle.region.specs.Region.{Off, Frame}
+use Rattle.region.specs.Region.{Off}
 use Rattle.region.specs.RegionLaws.{frame-refl}
 use Rattle.span_section.specs.Walked.{Blank}
 

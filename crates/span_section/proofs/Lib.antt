@@ -1,4 +1,4 @@
-pub mod Lists
+pub mod LinkSteps
 pub mod BlankSteps
 pub mod WalkSteps
 pub mod Section

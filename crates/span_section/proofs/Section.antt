@@ -1,7 +1,7 @@
 -- The section: the count, spans of no struct, and over them the spans of the structs, each of which is on the walk of one root.
 use mathlib.Core.Path.{_≡_, refl, sym, ap, ap₂, subst, _∙_}
 use mathlib.Core.Bool.{Bool, true, false}
-use mathlib.Core.List.{List, [], _∷_}
+use mathlib.Core.List.{List, []}
 use Prim.Native.Nat.{ℕ, zero, suc, _+_, _-_, _*_, _≤_, _<_}
 use native.Mathlib.Omega.{arith}
 use native.Mathlib.Decide.{decLt}
@@ -13,9 +13,8 @@ use Rattle.counting.specs.Counting.{tick, count}
 use Rattle.region.specs.Region.{Off, Frame}
 use Rattle.sheet.specs.Module.{TypeDef, coroutine, Module, typeAt, isStruct}
 use Rattle.layout.specs.Opened.{moduleIn}
-use Rattle.parents.specs.Forest.{entryAt}
 use Rattle.parents.specs.Parents.{mostOnChain, parentsFaults}
-use Rattle.spans.specs.Spans.{under, order, pre, post, spanOf, spans, noPre, noPost}
+use Rattle.spans.specs.Spans.{under, order, spanOf, spans}
 use Rattle.forest.specs.Entries.{isStructEntry, struct-at, entry-out}
 use Rattle.forest.specs.Once.{ChainRule, once}
 use Rattle.forest.specs.Family.{Part, part-self, ready-root}
@@ -26,9 +25,8 @@ use Rattle.opening.specs.declared.Opened.{Opened}
 use Rattle.opening.specs.Ready.{Ready}
 use Rattle.writing.specs.Writing.{written}
 use Rattle.writing.specs.WritingLaws.{written-by}
-use Rattle.span_section.specs.Siblings.{membersFrom}
 use Rattle.span_section.specs.Walked.{walksFrom, Walks, Numbered, Blank}
-use Rattle.span_section.proofs.Lists.{members-roots, counted}
+use Rattle.span_section.proofs.LinkSteps.{members-roots, counted}
 
 -- ── the walk of the roots ──
 
@@ -94,11 +92,11 @@ module _ (most : ℕ) (m : Module) (rule : ChainRule most (m .types)) (at : ℕ)
       after : (k : ℕ) → at + 1 + 2 * length (m .types) ≤ k → getD y k 0 ≡ getD v k 0
       after k h = half (k - (at + 1))
           (λ x q.
-              let e : k ≡ at + 1 + 2 * x = omega arith in
-              ap (λ i. getD y i 0) e ∙ n .samePre x (off-walk x (omega arith)) ∙ ap (λ i. getD z i 0) (sym e) ∙ old k (omega arith) (λ c d. omega arith))
+          let e : k ≡ at + 1 + 2 * x = omega arith in
+          ap (λ i. getD y i 0) e ∙ n .samePre x (off-walk x (omega arith)) ∙ ap (λ i. getD z i 0) (sym e) ∙ old k (omega arith) (λ c d. omega arith))
           (λ x q.
-              let e : k ≡ at + 2 + 2 * x = omega arith in
-              ap (λ i. getD y i 0) e ∙ n .samePost x (off-walk x (omega arith)) ∙ ap (λ i. getD z i 0) (sym e) ∙ old k (omega arith) (λ c d. omega arith))
+          let e : k ≡ at + 2 + 2 * x = omega arith in
+          ap (λ i. getD y i 0) e ∙ n .samePost x (off-walk x (omega arith)) ∙ ap (λ i. getD z i 0) (sym e) ∙ old k (omega arith) (λ c d. omega arith))
 
       go : (k : ℕ) → Off at (at + length (spanSection most m)) k → Dec (k < at) → getD y k 0 ≡ getD v k 0
       go k o (yes h) = n .front k (omega arith) ∙ old k (omega arith) (λ c d. omega arith)
@@ -134,17 +132,17 @@ module _ (most : ℕ) (m : Module) (rule : ChainRule most (m .types)) (at : ℕ)
       ∙ sym (first-word most m)
   word (suc j) h = half j
       (λ x q.
-          let e : at + suc j ≡ at + 1 + 2 * x = omega arith in
-          let l : x < length (m .types) = omega (arith, size) in
-          ap (λ i. getD y i 0) e
-          ∙ pre-word x l (isStruct (typeAt (m .types) x)) refl
-          ∙ sym (later-word most m j ∙ ap (λ i. getD (spans most (m .types)) i 0) q ∙ span-word most (m .types) x 0 l (omega arith)))
+      let e : at + suc j ≡ at + 1 + 2 * x = omega arith in
+      let l : x < length (m .types) = omega (arith, size) in
+      ap (λ i. getD y i 0) e
+      ∙ pre-word x l (isStruct (typeAt (m .types) x)) refl
+      ∙ sym (later-word most m j ∙ ap (λ i. getD (spans most (m .types)) i 0) q ∙ span-word most (m .types) x 0 l (omega arith)))
       (λ x q.
-          let e : at + suc j ≡ at + 2 + 2 * x = omega arith in
-          let l : x < length (m .types) = omega (arith, size) in
-          ap (λ i. getD y i 0) e
-          ∙ post-word x l (isStruct (typeAt (m .types) x)) refl
-          ∙ sym (later-word most m j ∙ ap (λ i. getD (spans most (m .types)) i 0) q ∙ span-word most (m .types) x 1 l (omega arith)))
+      let e : at + suc j ≡ at + 2 + 2 * x = omega arith in
+      let l : x < length (m .types) = omega (arith, size) in
+      ap (λ i. getD y i 0) e
+      ∙ post-word x l (isStruct (typeAt (m .types) x)) refl
+      ∙ sym (later-word most m j ∙ ap (λ i. getD (spans most (m .types)) i 0) q ∙ span-word most (m .types) x 1 l (omega arith)))
 
   section-written : y ≡ written v at (spanSection most m)
   section-written = written-by v y at (spanSection most m) kept word room

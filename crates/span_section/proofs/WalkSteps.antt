@@ -3,25 +3,23 @@ use mathlib.Core.Path.{_≡_, refl, sym, ap, ap₂, subst, _∙_}
 use mathlib.Core.Logic.{_≢_}
 use mathlib.Core.Bool.{true}
 use mathlib.Core.List.{List, [], _∷_, _++_, append-assoc, append-nil}
-use Prim.Native.Nat.{ℕ, zero, suc, _+_, _-_, _*_, _≤_, _<_}
+use Prim.Native.Nat.{ℕ, suc, _+_, _-_, _*_, _≤_, _<_}
 use native.Mathlib.Omega.{arith}
-use native.Mathlib.Numerals.{add-one}
 use native.Mathlib.Decide.{ℕ-discrete, decLe}
-use lib.Dec.{T}
 use lib.ListN.{length, length-append, getD, set, length-set}
 use lib.Seq.{getD-set-same, getD-set-other}
 use Rattle.lists.specs.Lists.{concatMap}
-use Rattle.counting.specs.Counting.{tick, count, tick-is, tick-not, count-append}
+use Rattle.counting.specs.Counting.{count, tick-is, tick-not, count-append}
 use Rattle.sheet.specs.Module.{TypeDef}
 use Rattle.parents.specs.Forest.{entryAt, walk}
 use Rattle.parents.specs.Parents.{mostOnChain}
 use Rattle.spans.specs.Spans.{under, order, pre, post, children}
-use Rattle.forest.specs.Once.{ChainRule, order-short}
-use Rattle.forest.specs.Family.{Part, part-fst, part-snd, part-length, Ready, ready-child, full-pos, pre-at, post-at}
+use Rattle.forest.specs.Once.{order-short}
+use Rattle.forest.specs.Family.{part-fst, part-snd, part-length, Ready, ready-child, full-pos, pre-at, post-at}
 use Rattle.opening.specs.declared.Opened.{Opened}
 use Rattle.span_section.specs.Siblings.{inList, membersFrom, firstFrom, Linked}
 use Rattle.span_section.specs.Walked.{walksFrom, Placed, Walks, Numbered, Walking}
-use Rattle.span_section.proofs.Lists.{members-in, members-end, members-count, members-children, First, first-of}
+use Rattle.span_section.proofs.LinkSteps.{members-in, members-end, members-count, members-children, First, first-of}
 
 -- ── pieces ──
 

@@ -65,8 +65,17 @@ fn blank_spans(table: &mut [u32], at: usize, n: usize)
     }
 }
 
-// Number the structs of a list and those below them; the answer is the clock after them. The sheet is what the numbers are about.
-fn visit(sheet: &[u8], work: &[u32], o: Opened, table: &mut [u32], at: usize, list: usize, clock: usize, left: u32) -> usize
+// Number the structs of a list and those below them; the answer is the clock after them. The sheet is lent for the contract.
+fn visit(
+    sheet: &[u8],
+    work: &[u32],
+    o: Opened,
+    table: &mut [u32],
+    at: usize,
+    list: usize,
+    clock: usize,
+    left: u32,
+) -> usize
     requires { ⌜ Linked (moduleIn (firstWords (now sheet) (o .layout .words)) .types) o (now work) ⌝ }
     requires { ⌜ Walks mostOnChain (moduleIn (firstWords (now sheet) (o .layout .words)) .types) list clock left ⌝ }
     requires { ⌜ list ≤ o .counts .types ⌝ }

@@ -1,14 +1,10 @@
 -- `span_section::blank_spans` meets its contract.
-use borrow.Author.Needs.{needs}
 use native.Mathlib.Omega.{arith}
 use Prim.Native.Nat.{_≤_, _-_}
 use Rattle.span_section.specs.Walked.{Blank}
 use Rattle.span_section.proofs.BlankSteps.{blank-start, blank-room, blank-next, blank-end}
 use Rattle.span_section.proofs.blank_spans.Statement.{statement}
 use Rattle.span_section.proofs.blank_spans.Tie as tie
-use Rattle.span_section.proofs.blank_spans.Reads as reads
-use Rattle.span_section.proofs.blank_spans.Lts as lts
-use Rattle.region.proofs.put.Reads as put-reads
 
 abbrev Inv-loop : tie.InvT-loop
 Inv-loop table₀ at n t₀ table t = (t ≤ n) × Blank at t table₀ table

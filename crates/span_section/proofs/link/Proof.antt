@@ -1,17 +1,9 @@
 -- `span_section::link` meets its contract.
 use borrow.Author.Needs.{needs}
 use native.Mathlib.Omega.{arith}
-use Rattle.span_section.proofs.Lists.{list-room, list-still, next-room, link-done, link-passed}
-use mathlib.Core.Path.{ap}
+use Rattle.span_section.proofs.LinkSteps.{list-room, list-still, next-room, link-done, link-passed}
 use Rattle.span_section.proofs.link.Statement.{statement}
 use Rattle.span_section.proofs.link.Tie as tie
-use Rattle.span_section.proofs.link.Reads as reads
-use Rattle.span_section.proofs.link.Lts as lts
-use Rattle.parent_rules.proofs.is_struct.Reads as is-struct-reads
-use Rattle.parent_rules.proofs.parent_of.Reads as parent-of-reads
-use Rattle.region.proofs.copy_word.Reads as copy-word-reads
-use Rattle.region.proofs.put.Reads as put-reads
-use Rattle.region.proofs.widen.Reads as widen-reads
 
 is-struct-requires : tie.Need-is-struct-requires
 is-struct-requires c κs = search needs

@@ -2,13 +2,9 @@
 use borrow.Author.Needs.{needs}
 use native.Mathlib.Omega.{arith}
 use Rattle.blocks.specs.Frame.{firstWords}
-use Rattle.span_section.proofs.Lists.{types-few, counted, Links, links-start, links-next, links-down, links-length, links-end}
+use Rattle.span_section.proofs.LinkSteps.{types-few, counted, Links, links-start, links-next, links-down, links-length, links-end}
 use Rattle.span_section.proofs.link_all.Statement.{statement}
 use Rattle.span_section.proofs.link_all.Tie as tie
-use Rattle.span_section.proofs.link_all.Reads as reads
-use Rattle.span_section.proofs.link_all.Lts as lts
-use Rattle.region.proofs.fill.Reads as fill-reads
-use Rattle.span_section.proofs.link.Reads as link-reads
 
 abbrev Inv-loop : tie.InvT-loop
 Inv-loop sheet work₀ o t₀ work t = Links (firstWords sheet (o .layout .words)) o work₀ work t

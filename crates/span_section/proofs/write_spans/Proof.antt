@@ -4,12 +4,6 @@ use native.Mathlib.Omega.{arith}
 use Rattle.span_section.proofs.Section.{walks-all, section-end, section-room, counted-room, blank-long, spans-written}
 use Rattle.span_section.proofs.write_spans.Statement.{statement}
 use Rattle.span_section.proofs.write_spans.Tie as tie
-use Rattle.span_section.proofs.write_spans.Reads as reads
-use Rattle.span_section.proofs.write_spans.Lts as lts
-use Rattle.region.proofs.put.Reads as put-reads
-use Rattle.span_section.proofs.blank_spans.Reads as blank-spans-reads
-use Rattle.span_section.proofs.link_all.Reads as link-all-reads
-use Rattle.span_section.proofs.visit.Reads as visit-reads
 
 cast-n : tie.Need-cast-n
 cast-n c = search needs

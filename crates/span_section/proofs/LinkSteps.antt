@@ -7,15 +7,14 @@ use Prim.Native.Nat.{ℕ, zero, suc, _+_, _-_, _*_, _≤_, _<_}
 use native.Mathlib.Omega.{arith}
 use native.Mathlib.Numerals.{add-one}
 use native.Mathlib.Decide.{ℕ-discrete}
-use lib.Dec.{T, eqb}
 use lib.ListN.{length, getD, drop, set, length-set, drop-of-length-le}
 use lib.Seq.{drop-cons, getD-set-same, getD-set-other}
 use borrow.Author.Tests.{eq-eqb, ne-eqb}
 use Rattle.lists.specs.Lists.{placesFrom}
-use Rattle.counting.specs.Counting.{count, tick, tick-is, T-true}
+use Rattle.counting.specs.Counting.{count, tick, T-true}
 use Rattle.counting.specs.Places.{count-places}
 use Rattle.region.specs.Region.{Off, Frame, wordAt}
-use Rattle.region.specs.RegionLaws.{frame-refl, frame-then, frame-set}
+use Rattle.region.specs.RegionLaws.{frame-refl, frame-then}
 use Rattle.sheet.specs.Module.{Struct, TypeDef, coroutine, Module, structOf, isStruct, typeAt}
 use Rattle.layout.specs.Opened.{moduleIn}
 use Rattle.opening.specs.declared.Opened.{Opened}
@@ -25,7 +24,7 @@ use Rattle.parents.specs.Forest.{Entry, other, root, sub, structEntry, entryOf,
 use Rattle.parents.specs.Parents.{mostOnChain, parentsFaults}
 use Rattle.parent_rules.specs.Child.{parentOf, parentWord}
 use Rattle.spans.specs.Spans.{isRoot, isChildOf, numbersOf, roots, children}
-use Rattle.forest.specs.Entries.{isStructEntry, struct-at, struct-entry}
+use Rattle.forest.specs.Entries.{isStructEntry, struct-entry}
 use Rattle.forest.specs.Accepted.{children-kept}
 use Rattle.sheet.specs.TypeLaws.{struct-known}
 use Rattle.span_section.specs.Siblings.{inList, membersFrom, headOr, firstFrom, Linking, Linked}
