@@ -13,7 +13,7 @@ use Rattle.blocks.specs.Frame.{firstWords}
 use Rattle.blocks.specs.FirstWords.{length-firstWords, firstWords-at}
 use Rattle.error.specs.declared.What.the-variants.{Strings}
 use Rattle.faults.specs.Empty.{append-empty, range-empty, every}
-use Rattle.reader.specs.Reader.{got, Reader, listOf, encodeList}
+use Rattle.reader.specs.Reader.{Reader, listOf}
 use Rattle.reader.specs.ReaderLaws.{Stands, stands-in, stands-at, Codes, list-codes}
 use Rattle.reader.specs.Value.{Whole, valueOf}
 use Rattle.reader.specs.ValueLaws.{whole-inv, value-got}

@@ -1,16 +1,15 @@
 -- Pairs of lent words written into the table, after their count.
-use Prim.Native.Nat.{ℕ, zero, suc, _+_, _-_, _*_, _≤_, _<_}
+use Prim.Native.Nat.{ℕ, _+_, _-_, _*_, _≤_, _<_}
 use mathlib.Core.Path.{_≡_, refl, sym, ap, ap₂, _∙_}
-use mathlib.Core.List.{List, [], _∷_, _++_}
+use mathlib.Core.List.{List, [], _∷_}
 use native.Mathlib.Omega.{arith}
 use lib.ListN.{length, getD}
 use Rattle.lists.specs.Lists.{concatMap}
 use Rattle.lists.specs.ListLaws.{length-concatMap}
-use Rattle.reader.specs.Reader.{encodeList}
 use Rattle.sheet.specs.Encode.{encodePair}
 use Rattle.region.specs.Region.{Frame}
 use Rattle.writing.specs.Writing.{written, wordsOf, Writes}
-use Rattle.writing.specs.WritingLaws.{written-then, written-length, writes-start, writes-next, writes-end, writes-length, writes-room}
+use Rattle.writing.specs.WritingLaws.{written-then, written-length, writes-start, writes-next, writes-end, writes-length}
 use Rattle.table.specs.Records.{byName}
 use Rattle.name_lists.specs.Merge.{pairsAt}
 use Rattle.name_lists.specs.PairLaws.{pairs-length, pairs-at}

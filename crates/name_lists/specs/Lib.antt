@@ -3,3 +3,4 @@ pub mod MergeLaws
 pub mod Steps
 pub mod PairLaws
 pub mod Names
+pub mod NameLaws

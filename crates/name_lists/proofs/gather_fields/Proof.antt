@@ -1,5 +1,4 @@
 -- `name_lists::gather_fields` meets its contract.
-use borrow.Author.Needs.{needs}
 use native.Mathlib.Omega.{arith}
 use Prim.Native.Nat.{_-_, _*_}
 use mathlib.Core.List.{[]}

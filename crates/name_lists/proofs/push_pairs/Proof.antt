@@ -1,5 +1,4 @@
 -- `name_lists::push_pairs` meets its contract.
-use borrow.Author.Needs.{needs}
 use native.Mathlib.Omega.{arith}
 use Prim.Native.Nat.{_-_}
 use Rattle.name_lists.proofs.WriteSteps.{Pushes, pushes-start, pushes-next, pushes-end, pushes-room}
