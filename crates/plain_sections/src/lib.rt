@@ -45,20 +45,15 @@ fn write_import(
     ensures { λ r. ⌜ now (table .exit) ≡ written (now (table .entry)) at (linkedImport (firstWords (now (sheet .entry)) (o .layout .words)) (now (work .entry)) o i) ⌝ }
     ensures { λ r. ⌜ r ≡ at + 2 ⌝ }
 {
-    let sig = canon_type(work, o, import_sig(sheet, work, o, i));
+    let stored = import_sig(sheet, work, o, i);
+    let sig = canon_type(work, o, stored);
     let host = host_entry(work, o, i);
     let next = push(table, at, sig.0);
     push(table, next, host)
 }
 
 // Imports in order.
-fn write_each_import(
-    sheet: &[u8],
-    work: &[u32],
-    o: Opened,
-    table: &mut [u32],
-    at: usize,
-) -> usize
+fn write_each_import(sheet: &[u8], work: &[u32], o: Opened, table: &mut [u32], at: usize) -> usize
     requires { ⌜ Ready (firstWords (now sheet) (o .layout .words)) (now work) o ⌝ }
     requires { ⌜ SigsInside (moduleIn (firstWords (now sheet) (o .layout .words))) ⌝ }
     requires { ⌜ at + length (eachOf (linkedImport (firstWords (now sheet) (o .layout .words)) (now work) o) (o .counts .imports)) ≤ length (now table) ⌝ }
@@ -75,13 +70,7 @@ fn write_each_import(
 }
 
 // The import section, from word at of the table on; the answer is the place after it.
-pub fn write_imports(
-    sheet: &[u8],
-    work: &[u32],
-    o: Opened,
-    table: &mut [u32],
-    at: usize,
-) -> usize
+pub fn write_imports(sheet: &[u8], work: &[u32], o: Opened, table: &mut [u32], at: usize) -> usize
     requires { ⌜ Ready (firstWords (now sheet) (o .layout .words)) (now work) o ⌝ }
     requires { ⌜ SigsInside (moduleIn (firstWords (now sheet) (o .layout .words))) ⌝ }
     requires { ⌜ at + length (linkedImports (firstWords (now sheet) (o .layout .words)) (now work) o) ≤ length (now table) ⌝ }
@@ -93,13 +82,7 @@ pub fn write_imports(
 }
 
 // Types in order: the canonical number of each.
-fn write_each_canon(
-    sheet: &[u8],
-    work: &[u32],
-    o: Opened,
-    table: &mut [u32],
-    at: usize,
-) -> usize
+fn write_each_canon(sheet: &[u8], work: &[u32], o: Opened, table: &mut [u32], at: usize) -> usize
     requires { ⌜ Ready (firstWords (now sheet) (o .layout .words)) (now work) o ⌝ }
     requires { ⌜ at + length (eachOf (canonOf (moduleIn (firstWords (now sheet) (o .layout .words)) .types)) (o .counts .types)) ≤ length (now table) ⌝ }
     ensures { λ r. ⌜ now (table .exit) ≡ written (now (table .entry)) at (eachOf (canonOf (moduleIn (firstWords (now (sheet .entry)) (o .layout .words)) .types)) (o .counts .types)) ⌝ }
@@ -116,13 +99,7 @@ fn write_each_canon(
 }
 
 // The canonical numbers of all types, from word at of the table on; the answer is the place after them.
-pub fn write_canon(
-    sheet: &[u8],
-    work: &[u32],
-    o: Opened,
-    table: &mut [u32],
-    at: usize,
-) -> usize
+pub fn write_canon(sheet: &[u8], work: &[u32], o: Opened, table: &mut [u32], at: usize) -> usize
     requires { ⌜ Ready (firstWords (now sheet) (o .layout .words)) (now work) o ⌝ }
     requires { ⌜ at + 1 + length (moduleIn (firstWords (now sheet) (o .layout .words)) .types) ≤ length (now table) ⌝ }
     ensures { λ r. ⌜ now (table .exit) ≡ written (now (table .entry)) at (canonSection (moduleIn (firstWords (now (sheet .entry)) (o .layout .words)))) ⌝ }
@@ -133,13 +110,7 @@ pub fn write_canon(
 }
 
 // A binding is a hook, whether it is to an import, and the number: its word goes to its hook's place.
-fn put_binding(
-    sheet: &[u8],
-    o: Opened,
-    at: usize,
-    table: &mut [u32],
-    first: usize,
-)
+fn put_binding(sheet: &[u8], o: Opened, at: usize, table: &mut [u32], first: usize)
     requires { ⌜ BindingAt (now sheet) (o .layout .words) at ⌝ }
     requires { ⌜ first + 31 ≤ length (now table) ⌝ }
     ensures { λ r. ⌜ now (table .exit) ≡ set (now (table .entry)) (first + getD (words (now (sheet .entry))) at 0) (boundWord (now (sheet .entry)) at) ⌝ }
