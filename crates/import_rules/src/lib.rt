@@ -59,7 +59,7 @@ fn import_name(sheet: &[u8], work: &[u32], o: Opened, i: u32) -> StrId
     StrId(word(sheet, import_at(work, o, i) + 1))
 }
 
-fn import_sig(sheet: &[u8], work: &[u32], o: Opened, i: u32) -> TypeId
+pub fn import_sig(sheet: &[u8], work: &[u32], o: Opened, i: u32) -> TypeId
     requires { ⌜ Ready (firstWords (now sheet) (o .layout .words)) (now work) o ⌝ }
     requires { ⌜ i < o .counts .imports ⌝ }
     ensures { λ r. ⌜ r .0 ≡ (importAt (moduleIn (firstWords (now (sheet .entry)) (o .layout .words))) i) .sig ⌝ }

@@ -1,0 +1,4 @@
+pub mod RowSteps
+pub mod ImportSteps
+pub mod CanonSteps
+pub mod BindSteps
