@@ -3,7 +3,6 @@ ghost use Prim.Native.Nat.{_≤_};
 use crate::members::Member;
 use crate::members::put_list;
 use crate::words::put;
-use crate::words::put_four;
 use crate::words::put_three;
 use crate::words::put_two;
 

@@ -44,10 +44,12 @@ fn put_signature(sheet: &mut [u8], k: usize, n: u32, results: u32) -> usize {
 // The shapes that have functions or imports have one type, their signature.
 fn put_signatures(sheet: &mut [u8], k: usize, shape: u8, n: u32) -> usize {
     match shape {
-        b's' | b'a' => put(sheet, k, 0),
         b'l' => put_signature(sheet, k, n, 0),
         b'e' => put_signature(sheet, k, 1, 1),
-        _ => put_signature(sheet, k, 0, 0),
+        b'i' | b'u' | b'd' | b'b' | b'r' | b'o' | b'h' | b'm' | b'j' => {
+            put_signature(sheet, k, 0, 0)
+        }
+        _ => put(sheet, k, 0),
     }
 }
 
