@@ -44,6 +44,7 @@ pub record Admitted (sheet hosts : List ℕ) (table work : ℕ) (l : Layout) (n 
   pub opens : opening sheet hosts table work ≡ opened (moduleIn (firstWords sheet (l .words))) (hostsIn (firstWords hosts n))
   pub located : Located (firstWords sheet (l .words)) (moduleIn (firstWords sheet (l .words))) l
   pub few : l .words ≤ 520192
+  pub stated : l .words ≡ lengthWord (words sheet)
   pub room : 64 + 8 * l .words ≤ work
   pub listed : Whole (listOf hostFn (firstWords hosts n) 2)
 
@@ -102,6 +103,7 @@ module _ (sheet hosts : List ℕ) (table work : ℕ) where
         opens = listing c;
         located = intact sheet l e .located;
         few = intact sheet l e .few;
+        stated = words-stated sheet l e;
         room = enough-room (l .words) table work c;
         listed = hosts-ready hosts n {r = Listed.Intact n} refl (sym k);
       }

@@ -1,0 +1,119 @@
+// The linked table: eight sections, then the header before them.
+ghost use mathlib.Core.Path.{_≡_};
+ghost use mathlib.Core.List.{[], _∷_};
+ghost use Prim.Native.Nat.{_+_, _*_, _≤_, _<_};
+ghost use lib.ListN.{length};
+ghost use Rattle.blocks.specs.Frame.{firstWords};
+ghost use Rattle.layout.specs.Opened.{moduleIn};
+ghost use Rattle.region.specs.Region.{Frame};
+ghost use Rattle.opening.specs.Ready.{Ready};
+ghost use Rattle.writing.specs.Writing.{written};
+ghost use Rattle.link.specs.Parts.{Clear, frontWords, backWords, FrontAt, BackAt, Small, headerOf, tableBy};
+use plain_sections::write_canon;
+use crate::stub::write_funcs;
+use crate::stub::write_global_references;
+use crate::stub::write_globals;
+use plain_sections::write_hooks;
+use plain_sections::write_imports;
+use span_section::write_spans;
+use crate::stub::write_types;
+use opening::Opened;
+use writing::push;
+
+mod stub;
+
+// Where the types', imports' and hooks' sections start, and where the last ends.
+pub struct Front {
+    pub types: usize,
+    pub imports: usize,
+    pub hooks: usize,
+    pub end: usize,
+}
+
+// Where the globals', references' and spans' sections start, and where the last ends.
+pub struct Back {
+    pub globals: usize,
+    pub references: usize,
+    pub spans: usize,
+    pub end: usize,
+}
+
+// Functions, types, imports, hooks.
+fn write_front(sheet: &[u8], work: &mut [u32], o: Opened, table: &mut [u32], at: usize) -> Front
+    requires { ⌜ Ready (firstWords (now sheet) (o .layout .words)) (now work) o ⌝ }
+    requires { ⌜ Clear (moduleIn (firstWords (now sheet) (o .layout .words))) ⌝ }
+    requires { ⌜ at + length (frontWords (firstWords (now sheet) (o .layout .words)) (now work) o) ≤ length (now table) ⌝ }
+    ensures { λ r. ⌜ now (table .exit) ≡ written (now (table .entry)) at (frontWords (firstWords (now (sheet .entry)) (o .layout .words)) (now (work .entry)) o) ⌝ }
+    ensures { λ r. ⌜ FrontAt (firstWords (now (sheet .entry)) (o .layout .words)) (now (work .entry)) o at r ⌝ }
+    ensures { λ r. ⌜ Frame (λ k. k < 6 * o .layout .words) (now (work .entry)) (now (work .exit)) ⌝ }
+{
+    let types = write_funcs(sheet, work, o, table, at);
+    let imports = write_types(sheet, work, o, table, types);
+    let hooks = write_imports(sheet, work, o, table, imports);
+    let end = write_hooks(sheet, o, table, hooks);
+    Front {
+        types: types,
+        imports: imports,
+        hooks: hooks,
+        end: end,
+    }
+}
+
+// Canonical numbers, globals, the references among them, spans.
+fn write_back(sheet: &[u8], work: &mut [u32], o: Opened, table: &mut [u32], at: usize) -> Back
+    requires { ⌜ Ready (firstWords (now sheet) (o .layout .words)) (now work) o ⌝ }
+    requires { ⌜ Clear (moduleIn (firstWords (now sheet) (o .layout .words))) ⌝ }
+    requires { ⌜ at + length (backWords (firstWords (now sheet) (o .layout .words))) ≤ length (now table) ⌝ }
+    ensures { λ r. ⌜ now (table .exit) ≡ written (now (table .entry)) at (backWords (firstWords (now (sheet .entry)) (o .layout .words))) ⌝ }
+    ensures { λ r. ⌜ BackAt (firstWords (now (sheet .entry)) (o .layout .words)) at r ⌝ }
+{
+    let globals = write_canon(sheet, work, o, table, at);
+    let references = write_globals(sheet, work, o, table, globals);
+    let spans = write_global_references(sheet, o, table, references);
+    let end = write_spans(sheet, work, o, table, spans);
+    Back {
+        globals: globals,
+        references: references,
+        spans: spans,
+        end: end,
+    }
+}
+
+// Four words side by side.
+fn push_four(table: &mut [u32], at: usize, a: usize, b: usize, c: usize, d: usize) -> usize
+    requires { ⌜ at + 4 ≤ length (now table) ⌝ }
+    requires { ⌜ (a < 4294967296) × ((b < 4294967296) × ((c < 4294967296) × (d < 4294967296))) ⌝ }
+    ensures { λ r. ⌜ now (table .exit) ≡ written (now (table .entry)) at (a ∷ b ∷ c ∷ d ∷ []) ⌝ }
+    ensures { λ r. ⌜ r ≡ at + 4 ⌝ }
+{
+    let p = push(table, at, a as u32);
+    let p = push(table, p, b as u32);
+    let p = push(table, p, c as u32);
+    push(table, p, d as u32)
+}
+
+fn write_header(table: &mut [u32], f: Front, b: Back)
+    requires { ⌜ 10 ≤ length (now table) ⌝ }
+    requires { ⌜ Small f b ⌝ }
+    ensures { λ r. ⌜ now (table .exit) ≡ written (now (table .entry)) 0 (headerOf f b) ⌝ }
+{
+    let p = push(table, 0, 1);
+    let p = push(table, p, b.end as u32);
+    let p = push_four(table, p, 10, f.types, f.imports, f.hooks);
+    push_four(table, p, f.end, b.globals, b.references, b.spans);
+}
+
+// The whole table; the answer is its length.
+pub fn write_table(sheet: &[u8], work: &mut [u32], o: Opened, table: &mut [u32]) -> usize
+    requires { ⌜ Ready (firstWords (now sheet) (o .layout .words)) (now work) o ⌝ }
+    requires { ⌜ Clear (moduleIn (firstWords (now sheet) (o .layout .words))) ⌝ }
+    requires { ⌜ length (tableBy (firstWords (now sheet) (o .layout .words)) (now work) o) ≤ length (now table) ⌝ }
+    requires { ⌜ length (tableBy (firstWords (now sheet) (o .layout .words)) (now work) o) < 4294967296 ⌝ }
+    ensures { λ r. ⌜ now (table .exit) ≡ written (now (table .entry)) 0 (tableBy (firstWords (now (sheet .entry)) (o .layout .words)) (now (work .entry)) o) ⌝ }
+    ensures { λ r. ⌜ r ≡ length (tableBy (firstWords (now (sheet .entry)) (o .layout .words)) (now (work .entry)) o) ⌝ }
+{
+    let f = write_front(sheet, work, o, table, 10);
+    let b = write_back(sheet, work, o, table, f.end);
+    write_header(table, f, b);
+    b.end
+}

@@ -1,0 +1,117 @@
+-- The answer to any bytes, and the slices after it.
+use Prim.Native.Nat.{ℕ, _+_, _*_, _≤_, _<_}
+use mathlib.Core.Path.{_≡_, refl, sym, ap, subst, _∙_}
+use mathlib.Core.List.{List, []}
+use mathlib.Core.Bool.{true}
+use native.Mathlib.Omega.{arith}
+use lib.ListN.{length, replicate}
+use Rattle.lists.specs.Lists.{all}
+use Rattle.blocks.specs.ByteLaws.{isByte}
+use Rattle.blocks.specs.Frame.{firstWords}
+use Rattle.error.specs.declared.LoadErrorKind.{LoadErrorKind}
+use Rattle.error.specs.declared.Loaded.{Loaded}
+use Rattle.error.specs.declared.Loaded.the-variants.{Accepted, Refused}
+use Rattle.error.specs.Answer.{inModule}
+use Rattle.reader.specs.Reader.{listOf}
+use Rattle.reader.specs.Value.{Whole}
+use Rattle.sheet.specs.Module.{Module}
+use Rattle.sheet.specs.SheetLaws.{decode-length}
+use Rattle.host.specs.Host.{HostFn, hostFn}
+use Rattle.host.specs.Listed.{listedOf, hostsIn}
+use Rattle.layout.specs.declared.Layout.{Layout}
+use Rattle.layout.specs.Layout.{layout, checkedOf}
+use Rattle.layout.specs.LayoutLaws.{Located}
+use Rattle.layout.specs.Opened.{moduleIn}
+use Rattle.parents.specs.Parents.{mostOnChain}
+use Rattle.opening.specs.declared.Opened.{Opened}
+use Rattle.opening.specs.Ready.{Ready}
+use Rattle.table.specs.Table.{tableWords}
+use Rattle.table.specs.TableLaws.{table-few}
+use Rattle.load.specs.Load as load
+use Rattle.load.specs.Load.{refused, opened, opening, answer, load, tableThen, tableAfter, workThen, workAfter}
+use Rattle.load.specs.LoadLaws.{opening-inv, linked-fits}
+use Rattle.inputs.specs.declared.Inputs.{Inputs}
+use Rattle.inputs.specs.declared.Inputs.the-variants as Inputs
+use Rattle.inputs.specs.Inputs.{inputsOf}
+use Rattle.inputs.specs.InputsLaws.{Admitted, inputs-refused, inputs-intact}
+use Rattle.rules.specs.Unlinked.{Zeroed}
+use Rattle.loader.specs.Linking.{Fits, answered, tableLeft}
+
+-- ── a sheet that was opened ──
+
+module _ (b w : List ℕ) (l : Layout) (o : Opened) (x : (o .layout ≡ l) × Ready (firstWords b (l .words)) w o) where
+  pub opened-ready : Ready (firstWords b (o .layout .words)) w o
+  opened-ready = subst (λ (k : Layout). Ready (firstWords b (k .words)) w o) (sym (x .0)) (x .1)
+
+  pub opened-few : l .words ≤ 520192 → o .layout .words ≤ 520192
+  opened-few h = subst (λ (k : Layout). k .words ≤ 520192) (sym (x .0)) h
+
+  pub opened-fits : (hs : List HostFn) (table : List ℕ) → Fits hs (moduleIn (firstWords b (l .words))) table → Fits hs (moduleIn (firstWords b (o .layout .words))) table
+  opened-fits hs table f = subst (λ (k : Layout). Fits hs (moduleIn (firstWords b (k .words))) table) (sym (x .0)) f
+
+  pub opened-answer : (hs : List HostFn) {r : Loaded} → r ≡ answered hs (moduleIn (firstWords b (o .layout .words))) → r ≡ answered hs (moduleIn (firstWords b (l .words)))
+  opened-answer hs e = e ∙ ap (λ (k : Layout). answered hs (moduleIn (firstWords b (k .words)))) (x .0)
+
+  pub opened-table : (hs : List HostFn) (table : List ℕ) {t : List ℕ} → t ≡ tableLeft hs (moduleIn (firstWords b (o .layout .words))) table → t ≡ tableLeft hs (moduleIn (firstWords b (l .words))) table
+  opened-table hs table e = e ∙ ap (λ (k : Layout). tableLeft hs (moduleIn (firstWords b (k .words))) table) (x .0)
+
+-- ── what is asked where the inputs are not refused ──
+
+-- room for the linked table, of a sheet in bytes
+fits : (sheet hosts : List ℕ) (work : ℕ) (l : Layout) (n : ℕ) (table : List ℕ) → all isByte sheet ≡ true → Admitted sheet hosts (length table) work l n
+    → Fits (hostsIn (firstWords hosts n)) (moduleIn (firstWords sheet (l .words))) table
+fits sheet hosts work l n table h a =
+    let m = moduleIn (firstWords sheet (l .words)) in
+    let hs = hostsIn (firstWords hosts n) in
+    record {
+      room = linked-fits mostOnChain sheet hosts (length table) work m hs h (a .opens);
+      small =
+          omega (
+            arith,
+            a .few,
+            a .stated,
+            decode-length sheet m h (opening-inv sheet hosts (length table) work m hs (a .opens) .holds),
+            table-few mostOnChain hs m
+          );
+    }
+
+pub load-asked : (sheet hosts table : List ℕ) (work : ℕ) (l : Layout) (n : ℕ) {i : Inputs} → i ≡ Inputs.Intact l n → i ≡ inputsOf (checkedOf (layout sheet)) (listedOf hosts) (length table) work → all isByte sheet ≡ true →
+    Located (firstWords sheet (l .words)) (moduleIn (firstWords sheet (l .words))) l × ((l .words ≤ 520192) × ((64 + 8 * l .words ≤ work) × (Whole (listOf hostFn (firstWords hosts n) 2) × Fits (hostsIn (firstWords hosts n)) (moduleIn (firstWords sheet (l .words))) table)))
+load-asked sheet hosts table work l n h e b =
+    let a = inputs-intact sheet hosts (length table) work e l n h in
+    (a .located, (a .few, (a .room, (a .listed, fits sheet hosts work l n table b a))))
+
+-- ── the three equations ──
+
+module _ (sheet hosts table work : List ℕ) {i : Inputs} (e : i ≡ inputsOf (checkedOf (layout sheet)) (listedOf hosts) (length table) (length work)) where
+  module _ (k : LoadErrorKind) (h : i ≡ Inputs.Refused k) where
+    closed : opening sheet hosts (length table) (length work) ≡ refused k
+    closed = inputs-refused sheet hosts (length table) (length work) e k h
+
+    pub refused-answer : {r : Loaded} → r ≡ Refused (inModule k) → r ≡ load sheet hosts (length table) (length work)
+    unfolding load answer
+    refused-answer q = q ∙ sym (ap (λ (x : load.Opened). answer x) closed)
+
+    pub refused-table : table ≡ tableAfter sheet hosts table work
+    unfolding tableAfter tableThen
+    refused-table = sym (ap (λ (x : load.Opened). tableThen x table) closed)
+
+    pub refused-work : work ≡ workAfter sheet hosts table work
+    unfolding workAfter workThen
+    refused-work = sym (ap (λ (x : load.Opened). workThen x work) closed)
+
+  module _ (l : Layout) (n : ℕ) (h : i ≡ Inputs.Intact l n) where
+    open : opening sheet hosts (length table) (length work) ≡ opened (moduleIn (firstWords sheet (l .words))) (hostsIn (firstWords hosts n))
+    open = inputs-intact sheet hosts (length table) (length work) e l n h .opens
+
+    pub intact-answer : {r : Loaded} → r ≡ answered (hostsIn (firstWords hosts n)) (moduleIn (firstWords sheet (l .words))) → r ≡ load sheet hosts (length table) (length work)
+    unfolding load answer answered
+    intact-answer q = q ∙ sym (ap (λ (x : load.Opened). answer x) open)
+
+    pub intact-table : {t : List ℕ} → t ≡ tableLeft (hostsIn (firstWords hosts n)) (moduleIn (firstWords sheet (l .words))) table → t ≡ tableAfter sheet hosts table work
+    unfolding tableAfter tableThen tableLeft
+    intact-table q = q ∙ sym (ap (λ (x : load.Opened). tableThen x table) open)
+
+    pub intact-work : {v : List ℕ} → Zeroed work v → v ≡ workAfter sheet hosts table work
+    unfolding workAfter workThen Zeroed
+    intact-work q = q ∙ sym (ap (λ (x : load.Opened). workThen x work) open)
