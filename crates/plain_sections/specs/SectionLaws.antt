@@ -32,7 +32,7 @@ use Rattle.opening.specs.ReadyLaws.{imports-inside, funcs-inside}
 use Rattle.signatures.specs.SignatureLaws.{checked-sig}
 use Rattle.import_rules.specs.Links.{HostEntries}
 use Rattle.table.specs.Records.{importRecord, bindingWord}
-use Rattle.table.specs.Table.{canonSection}
+use Rattle.table.specs.Table.{hookSection, canonSection}
 use Rattle.plain_sections.specs.Sections.{eachOf, linkedImport, linkedImports, SigsInside, canonOf, bindingFits, BindingsFit}
 
 -- ── members by number ──
@@ -99,6 +99,10 @@ canon-length m =
     omega (arith, length-map ns (canonType (m .types)), length-from 0 (length (m .types)))
 
 -- ── hooks ──
+
+pub hook-length : (m : Module) → length (hookSection m) ≡ 32
+unfolding hookSection
+hook-length m = refl
 
 -- the words of all bindings fit where no hook breaks a rule
 module _ (ws w : List ℕ) (o : Opened) (x : Ready ws w o) (few : o .layout .words ≤ 520192) where
