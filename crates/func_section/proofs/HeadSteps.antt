@@ -1,13 +1,13 @@
 -- Signature, numbers of registers and parameters, registers.
 use Prim.Native.Nat.{ℕ, _+_, _*_, _≤_, _<_}
 use mathlib.Core.Path.{_≡_, refl, sym, ap, ap₂, _∙_}
-use mathlib.Core.List.{List, [], _∷_, _++_, map}
+use mathlib.Core.List.{List, [], _∷_, map}
 use native.Mathlib.Omega.{arith}
 use lib.ListN.{length, length-map}
 use Rattle.lists.specs.Lists.{concatMap}
 use Rattle.blocks.specs.Frame.{firstWords}
 use Rattle.reader.specs.Reader.{encodeWords, got, listOf}
-use Rattle.reader.specs.Value.{Whole, valueOf}
+use Rattle.reader.specs.Value.{valueOf}
 use Rattle.reader.specs.ValueLaws.{got-whole, value-got, list-within}
 use Rattle.sheet.specs.Module.{ValueType, Func, Module}
 use Rattle.sheet.specs.Decode.{valueType}

@@ -1,6 +1,6 @@
 -- Result + 1, reference registers, captures.
-use Prim.Native.Nat.{ℕ, zero, suc, _+_, _≤_, _<_, min}
-use mathlib.Core.Path.{_≡_, refl, sym, ap, ap₂, _∙_}
+use Prim.Native.Nat.{ℕ, suc, _+_, _≤_, _<_, min}
+use mathlib.Core.Path.{_≡_, refl, ap, ap₂, _∙_}
 use mathlib.Core.List.{List, [], _∷_, _++_, map}
 use mathlib.Core.Bool.{Bool, true, false, cond}
 use native.Mathlib.Omega.{arith}
@@ -9,7 +9,7 @@ use Rattle.lists.specs.Lists.{placesFrom}
 use Rattle.blocks.specs.Frame.{firstWords}
 use Rattle.reader.specs.Reader.{encodeWords}
 use Rattle.reader.specs.ValueLaws.{got-whole, list-within}
-use Rattle.sheet.specs.Module.{ValueType, isReference, Func, Module}
+use Rattle.sheet.specs.Module.{ValueType, isReference}
 use Rattle.sheet.specs.Decode.{valueType}
 use Rattle.canon.specs.Canon.{canonWord}
 use Rattle.imports.specs.Params.{sigResults}

@@ -1,5 +1,5 @@
 -- The result's word.
-use Prim.Native.Nat.{ℕ, _+_, _-_, _*_, _≤_, _<_}
+use Prim.Native.Nat.{ℕ, _+_, _*_, _≤_, _<_}
 use mathlib.Core.Path.{_≡_, refl, sym, ap, subst, _∙_}
 use mathlib.Core.List.{List, [], _∷_}
 use mathlib.Core.Bool.{true}
@@ -9,7 +9,7 @@ use borrow.Author.Tests.{ltb-true}
 use Rattle.lists.specs.Lists.{concatMap}
 use Rattle.blocks.specs.Frame.{firstWords}
 use Rattle.error.specs.declared.What.the-variants.{Types}
-use Rattle.faults.specs.Empty.{range-empty, every}
+use Rattle.faults.specs.Empty.{range-empty}
 use Rattle.reader.specs.Reader.{listOf}
 use Rattle.reader.specs.Value.{Whole, valueOf}
 use Rattle.reader.specs.ValueLaws.{whole-inv, value-got, list-within}
@@ -26,7 +26,7 @@ use Rattle.table.specs.Records.{resultWord}
 use Rattle.signatures.specs.Signature.{HasSig}
 use Rattle.frames.specs.declared.Frame.{Frame}
 use Rattle.frames.specs.Frames.{funcOf}
-use Rattle.value_lists.specs.Values.{valuesAt, Values}
+use Rattle.value_lists.specs.Values.{Values}
 use Rattle.value_lists.specs.ValuesLaws.{values-list, values-at, list-values}
 use Rattle.func_section.specs.FuncWords.{Sound}
 use Rattle.func_section.proofs.Rules.{clean, results-hold}

@@ -1,5 +1,5 @@
 -- What the rules say of a function and of the types, part by part.
-use Prim.Native.Nat.{ℕ, _+_, _≤_, _<_}
+use Prim.Native.Nat.{ℕ, _≤_}
 use mathlib.Core.Path.{_≡_, refl, sym, ap}
 use mathlib.Core.List.{List, [], _++_}
 use mathlib.Core.Bool.{true}
@@ -13,9 +13,6 @@ use Rattle.error.specs.declared.Verdict.the-variants.{Holds}
 use Rattle.error.specs.Answer.{inModule, unless, inRange}
 use Rattle.error.specs.Verdict.{verdictOf}
 use Rattle.faults.specs.Empty.{append-empty, map-empty, unless-empty, every}
-use Rattle.reader.specs.Reader.{got, Reader, word, listOf}
-use Rattle.reader.specs.Value.{Whole, valueOf}
-use Rattle.reader.specs.ValueLaws.{got-whole, value-got}
 use Rattle.sheet.specs.Module.{TypeDef, func, struct, cell, iter, coroutine, Func, Module, typeAt, kindWord, isFunc, sigOf}
 use Rattle.types.specs.Types.{valueFaults, stringFaults, sigFaults, typeFaults, typesFaults}
 use Rattle.imports.specs.Params.{signatureFaults, sigParams, sigResults, paramListFaults}

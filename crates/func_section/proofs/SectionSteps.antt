@@ -1,10 +1,9 @@
 -- A function's record, and all functions by number.
 use Prim.Native.Nat.{ℕ, _+_, _*_, _≤_, _<_}
-use mathlib.Core.Path.{_≡_, refl, sym, ap, ap₂, subst, _∙_}
+use mathlib.Core.Path.{_≡_, sym, ap, ap₂, subst, _∙_}
 use mathlib.Core.List.{List, [], _∷_, _++_, map, append-assoc}
 use native.Mathlib.Omega.{arith}
 use lib.ListN.{length}
-use Rattle.lists.specs.Lists.{concatMap}
 use Rattle.error.specs.declared.FuncId.{FuncId}
 use Rattle.error.specs.Answer.{inFunction}
 use Rattle.faults.specs.Empty.{map-empty, every-from}

@@ -1,6 +1,6 @@
 -- Names, type refs, catch table.
 use Prim.Native.Nat.{ℕ, _+_, _≤_}
-use mathlib.Core.Path.{_≡_, sym, ap, _∙_}
+use mathlib.Core.Path.{_≡_, ap, _∙_}
 use mathlib.Core.List.{List, [], _++_, map}
 use native.Mathlib.Omega.{arith}
 use lib.ListN.{length, length-map}
@@ -10,7 +10,6 @@ use Rattle.error.specs.Answer.{inRange}
 use Rattle.reader.specs.Reader.{encodeWords, word, listOf}
 use Rattle.reader.specs.Value.{Whole, valueOf}
 use Rattle.reader.specs.ValueLaws.{got-whole, value-got}
-use Rattle.sheet.specs.Module.{Func}
 use Rattle.canon.specs.Canon.{canonString, canonType}
 use Rattle.types.specs.Types.{stringFaults}
 use Rattle.layout.specs.Opened.{moduleIn}

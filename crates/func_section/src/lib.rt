@@ -115,16 +115,7 @@ fn write_middle(
         table,
         p,
     );
-    write_values(
-        sheet,
-        work,
-        o,
-        c.body.captures + 1,
-        1,
-        c.captures,
-        table,
-        q,
-    )
+    write_values(sheet, work, o, c.body.captures + 1, 1, c.captures, table, q)
 }
 
 // Names, type refs, the catch table.
@@ -174,13 +165,7 @@ fn write_func(
 }
 
 // The count, then each function's record; the answer is the next place. Words of work below 6 * words stay as they are.
-pub fn write_funcs(
-    sheet: &[u8],
-    work: &mut [u32],
-    o: Opened,
-    table: &mut [u32],
-    at: usize,
-) -> usize
+pub fn write_funcs(sheet: &[u8], work: &mut [u32], o: Opened, table: &mut [u32], at: usize) -> usize
     requires { ⌜ Ready (firstWords (now sheet) (o .layout .words)) (now work) o ⌝ }
     requires { ⌜ o .layout .words ≤ 520192 ⌝ }
     requires { ⌜ typesFaults (moduleIn (firstWords (now sheet) (o .layout .words))) ≡ [] ⌝ }
