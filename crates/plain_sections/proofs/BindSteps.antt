@@ -1,5 +1,5 @@
 -- Bindings of hooks written, step by step: what is ahead gives each hook's word from the one that stands now.
-use Prim.Native.Nat.{ℕ, suc, _+_, _-_, _*_, _≤_, _<_}
+use Prim.Native.Nat.{ℕ, _+_, _-_, _*_, _≤_, _<_}
 use mathlib.Core.Path.{_≡_, refl, sym, ap, ap₂, subst, _∙_}
 use mathlib.Core.List.{List, [], _∷_, map}
 use mathlib.Core.Bool.{Bool, true, false, cond}
@@ -67,7 +67,7 @@ module _ (b : List ℕ) (n at : ℕ) {a : Hook} {q : ℕ} (e : hookOf (firstWord
 
 -- ── the loop ──
 
--- left bindings are ahead, from q on: w but for the hooks' places is v, and each hook's word comes of what stands there and those ahead
+-- left bindings are ahead, from q on; v is w but for the hooks' places, and what stands there with those ahead gives each hook's word
 pub record Binds (b : List ℕ) (n : ℕ) (hooks : List Hook) (w : List ℕ) (first left q : ℕ) (v : List ℕ) : Type 0 where
   pub whole : Whole (many left hookOf (firstWords b n) q)
   pub fits : all bindingFits (valueOf [] (many left hookOf (firstWords b n) q)) ≡ true

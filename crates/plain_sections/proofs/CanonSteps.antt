@@ -1,6 +1,6 @@
 -- Canonical numbers written, step by step.
-use Prim.Native.Nat.{ℕ, suc, _+_, _*_, _≤_, _<_}
-use mathlib.Core.Path.{_≡_, refl, sym, ap, _∙_}
+use Prim.Native.Nat.{ℕ, _+_, _*_, _≤_, _<_}
+use mathlib.Core.Path.{_≡_, sym, ap, _∙_}
 use mathlib.Core.List.{List, [], _∷_}
 use native.Mathlib.Omega.{arith}
 use lib.ListN.{length}
@@ -43,10 +43,10 @@ module _ (ws w : List ℕ) (o : Opened) (x : Ready ws w o) where
     inside : at + 1 + length (eachOf (canonOf (moduleIn ws .types)) (o .counts .types)) ≤ length u
     inside = omega (arith, room, ap length counted, canon-length (moduleIn ws))
 
-    module _ (v : List ℕ) (first : ℕ) (e : v ≡ written u at (o .counts .types ∷ [])) (k : first ≡ at + 1) where
-      pub canons-room : first + length (eachOf (canonOf (moduleIn ws .types)) (o .counts .types)) ≤ length v
-      canons-room = counted-room u at (o .counts .types) (eachOf (canonOf (moduleIn ws .types)) (o .counts .types)) inside v first e k
+    pub canons-room : (v : List ℕ) (first c : ℕ) → v ≡ written u at (c ∷ []) → first ≡ at + 1 → first + length (eachOf (canonOf (moduleIn ws .types)) (o .counts .types)) ≤ length v
+    canons-room v first c e k = counted-room u at c (eachOf (canonOf (moduleIn ws .types)) (o .counts .types)) inside v first e k
 
+    module _ (v : List ℕ) (first : ℕ) (e : v ≡ written u at (o .counts .types ∷ [])) (k : first ≡ at + 1) where
       pub canons-written : (v' : List ℕ) → v' ≡ written v first (eachOf (canonOf (moduleIn ws .types)) (o .counts .types)) → v' ≡ written u at (canonSection (moduleIn ws))
       canons-written v' f =
           counted-all u at (o .counts .types) (eachOf (canonOf (moduleIn ws .types)) (o .counts .types)) inside v first e k v' f ∙ ap (written u at) (sym counted)

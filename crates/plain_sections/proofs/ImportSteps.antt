@@ -1,6 +1,6 @@
 -- Imports written, step by step.
-use Prim.Native.Nat.{ℕ, suc, _+_, _*_, _≤_, _<_}
-use mathlib.Core.Path.{_≡_, refl, sym, ap, ap₂, _∙_}
+use Prim.Native.Nat.{ℕ, _+_, _*_, _≤_, _<_}
+use mathlib.Core.Path.{_≡_, sym, ap, ap₂, _∙_}
 use mathlib.Core.List.{List, [], _∷_}
 use native.Mathlib.Omega.{arith}
 use lib.ListN.{length, getD}
@@ -11,7 +11,7 @@ use Rattle.opening.specs.declared.Opened.{Opened}
 use Rattle.opening.specs.Ready.{Ready, posAt}
 use Rattle.opening.specs.ReadyLaws.{count-imports, imports-in, imports-inside, types-inside, type-canon}
 use Rattle.writing.specs.Writing.{written}
-use Rattle.writing.specs.WritingLaws.{written-then, written-length}
+use Rattle.writing.specs.WritingLaws.{written-then}
 use Rattle.plain_sections.specs.Sections.{eachOf, linkedImport, linkedImports, SigsInside}
 use Rattle.plain_sections.proofs.RowSteps.{Rows, counted-room, counted-all, rows-room, rows-next}
 
@@ -61,10 +61,10 @@ module _ (ws w : List ℕ) (o : Opened) (x : Ready ws w o) where
     pub count-room : at < length u
     count-room = omega (arith, inside)
 
-    module _ (v : List ℕ) (first : ℕ) (e : v ≡ written u at (o .counts .imports ∷ [])) (k : first ≡ at + 1) where
-      pub imports-room : first + length (eachOf (linkedImport ws w o) (o .counts .imports)) ≤ length v
-      imports-room = counted-room u at (o .counts .imports) (eachOf (linkedImport ws w o) (o .counts .imports)) inside v first e k
+    pub imports-room : (v : List ℕ) (first c : ℕ) → v ≡ written u at (c ∷ []) → first ≡ at + 1 → first + length (eachOf (linkedImport ws w o) (o .counts .imports)) ≤ length v
+    imports-room v first c e k = counted-room u at c (eachOf (linkedImport ws w o) (o .counts .imports)) inside v first e k
 
+    module _ (v : List ℕ) (first : ℕ) (e : v ≡ written u at (o .counts .imports ∷ [])) (k : first ≡ at + 1) where
       pub imports-written : (v' : List ℕ) → v' ≡ written v first (eachOf (linkedImport ws w o) (o .counts .imports)) → v' ≡ written u at (linkedImports ws w o)
       imports-written v' f =
           counted-all u at (o .counts .imports) (eachOf (linkedImport ws w o) (o .counts .imports)) inside v first e k v' f ∙ ap (written u at) (sym counted)

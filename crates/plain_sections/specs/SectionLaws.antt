@@ -1,5 +1,5 @@
 -- Sections in code and sections by definition; what a caller knows where no rule is broken.
-use Prim.Native.Nat.{ℕ, zero, suc, _+_, _*_, _≤_, _<_}
+use Prim.Native.Nat.{ℕ, suc, _+_, _*_, _≤_, _<_}
 use mathlib.Core.Path.{_≡_, refl, sym, ap, ap₂, _∙_}
 use mathlib.Core.List.{List, [], _∷_, _++_, map}
 use mathlib.Core.Bool.{Bool, true, false, cond}
@@ -12,18 +12,17 @@ use Rattle.lists.specs.Lists.{all, concatMap, from}
 use Rattle.lists.specs.ListLaws.{and-second, all-at, all-from, length-from, length-concatMap}
 use Rattle.faults.specs.Empty.{append-empty, map-empty, range-empty, every}
 use Rattle.error.specs.declared.What.the-variants.{Functions, Imports}
-use Rattle.error.specs.declared.LoadErrorKind.{LoadErrorKind}
 use Rattle.error.specs.declared.Verdict.the-variants.{Holds}
-use Rattle.error.specs.Answer.{inModule, unless, inRange}
+use Rattle.error.specs.Answer.{inModule}
 use Rattle.error.specs.Verdict.{verdictOf}
 use Rattle.reader.specs.Reader.{encodeList}
-use Rattle.sheet.specs.Module.{TypeDef, Import, Hook, Module}
+use Rattle.sheet.specs.Module.{Hook, Module}
 use Rattle.sheet.specs.Coded.{codedHook}
 use Rattle.sheet.specs.ModuleCodes.{hooks-codes}
 use Rattle.host.specs.Host.{HostFn}
 use Rattle.canon.specs.Canon.{canonType}
 use Rattle.imports.specs.Params.{signatureFaults}
-use Rattle.imports.specs.Imports.{hostEntry, importFaults, importsFaults}
+use Rattle.imports.specs.Imports.{importFaults, importsFaults}
 use Rattle.code.specs.Callee.{noImport, importAt}
 use Rattle.hooks.specs.Hooks.{hookFunctionFaults, hookImportFaults, hookFaults, hooksFaults}
 use Rattle.layout.specs.Opened.{moduleIn}
@@ -33,7 +32,7 @@ use Rattle.opening.specs.ReadyLaws.{imports-inside, funcs-inside}
 use Rattle.signatures.specs.SignatureLaws.{checked-sig}
 use Rattle.import_rules.specs.Links.{HostEntries}
 use Rattle.table.specs.Records.{importRecord, bindingWord}
-use Rattle.table.specs.Table.{canonSection}
+use Rattle.table.specs.Table.{hookSection, canonSection}
 use Rattle.plain_sections.specs.Sections.{eachOf, linkedImport, linkedImports, SigsInside, canonOf, bindingFits, BindingsFit}
 
 -- ── members by number ──
@@ -100,6 +99,10 @@ canon-length m =
     omega (arith, length-map ns (canonType (m .types)), length-from 0 (length (m .types)))
 
 -- ── hooks ──
+
+pub hook-length : (m : Module) → length (hookSection m) ≡ 32
+unfolding hookSection
+hook-length m = refl
 
 -- the words of all bindings fit where no hook breaks a rule
 module _ (ws w : List ℕ) (o : Opened) (x : Ready ws w o) (few : o .layout .words ≤ 520192) where

@@ -20,7 +20,7 @@ use Rattle.param_registers.specs.ValueWords.{value-word}
 use Rattle.writing.specs.Writing.{written, wordsOf, Writes}
 use Rattle.writing.specs.WritingLaws.{written-none, writes-start, writes-next, writes-room, writes-length, writes-end, writes-place}
 use Rattle.writing.specs.CountedLaws.{count-last}
-use Rattle.value_lists.specs.Values.{valuesAt, Present, placeWords}
+use Rattle.value_lists.specs.Values.{valuesAt, placeWords}
 use Rattle.value_lists.specs.ValuesLaws.{values-length}
 
 -- ── one value type ──

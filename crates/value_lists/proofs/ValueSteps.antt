@@ -2,13 +2,12 @@
 use Prim.Native.Nat.{ℕ, _+_, _*_, _≤_, _<_}
 use mathlib.Core.Path.{_≡_, sym, ap, _∙_}
 use mathlib.Core.List.{List, [], _∷_, map}
-use native.Mathlib.Omega.{arith}
 use lib.ListN.{length}
 use Rattle.blocks.specs.Frame.{firstWords}
 use Rattle.reader.specs.Reader.{encodeWords}
 use Rattle.reader.specs.Value.{Whole, valueOf}
 use Rattle.reader.specs.ValueLaws.{whole-inv}
-use Rattle.sheet.specs.Module.{ValueType, dyn, TypeDef}
+use Rattle.sheet.specs.Module.{dyn, TypeDef}
 use Rattle.sheet.specs.Decode.{valueType}
 use Rattle.canon.specs.Canon.{canonWord}
 use Rattle.types.specs.Types.{valueFaults}

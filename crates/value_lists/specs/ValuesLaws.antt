@@ -8,14 +8,13 @@ use lib.ListN.{length, getD, take, length-map, length-take}
 use lib.Seq.{ext-getD}
 use Rattle.lists.specs.Lists.{concatMap, from}
 use Rattle.lists.specs.ListLaws.{length-concatMap, length-from, getD-map-from, map-at}
-use Rattle.error.specs.declared.LoadErrorKind.{LoadErrorKind}
 use Rattle.faults.specs.Empty.{append-empty, every}
 use Rattle.reader.specs.Reader.{got, Reader, word, listOf}
 use Rattle.reader.specs.ReaderLaws.{Codes, then-inv, word-codes}
 use Rattle.reader.specs.ReadLaws.{listed-at}
 use Rattle.reader.specs.Value.{Whole, valueOf}
 use Rattle.reader.specs.ValueLaws.{whole-inv, got-whole, value-got}
-use Rattle.sheet.specs.Module.{ValueType, dyn, Field, Global, Module}
+use Rattle.sheet.specs.Module.{ValueType, dyn, Field, Global}
 use Rattle.sheet.specs.Decode.{valueType, fieldOf, globalOf}
 use Rattle.sheet.specs.Encode.{encodeValue, encodeField, encodeGlobal}
 use Rattle.sheet.specs.Coded.{codedValue, codedField, codedGlobal}

@@ -46,7 +46,7 @@ put-requires : tie.Need-put-requires
 put-requires c κs =
     let s = c .before .before .before .before .before .before .before .before .before in (
       omega (arith, s .pre .0 .hook, s .pre .1, c .before .before .before .before .before .widen .ensures, c .before .before .before .before .before .before .word .ensures),
-      bound-small _ _ (c .before .before .before .widen2 .ensures ∙ c .before .before .before .before .word2 .ensures) (c .before .widen3 .ensures ∙ c .before .before .word3 .ensures) _ (s .pre .0),
+      omega (arith, bound-small _ _ (c .before .before .before .widen2 .ensures ∙ c .before .before .before .before .word2 .ensures) (c .before .widen3 .ensures ∙ c .before .before .word3 .ensures) _ (s .pre .0)),
     )
 
 same-length : tie.Need-same-length
@@ -58,4 +58,21 @@ returns c =
     bound-put _ _ (c .before .before .before .before .before .before .widen2 .ensures ∙ c .before .before .before .before .before .before .before .word2 .ensures) (c .before .before .before .before .widen3 .ensures ∙ c .before .before .before .before .before .word3 .ensures) (s .args .table .now) _ (s .args .first) (c .before .before .before .before .before .before .before .before .widen .ensures ∙ c .before .before .before .before .before .before .before .before .before .word .ensures) (c .before .before .put .ensures)
 
 pub put-binding-spec : {M : Type 1} → statement M
-put-binding-spec = tie.close (tie.spec word-requires widen-requires add-word word-requires-2 widen-requires-2 add-word-2 word-requires-3 widen-requires-3 add-put add-put-2 mul-put add-put-3 put-requires same-length returns)
+put-binding-spec =
+    tie.close
+    (tie.spec
+    word-requires
+    widen-requires
+    add-word
+    word-requires-2
+    widen-requires-2
+    add-word-2
+    word-requires-3
+    widen-requires-3
+    add-put
+    add-put-2
+    mul-put
+    add-put-3
+    put-requires
+    same-length
+    returns)

@@ -46,4 +46,18 @@ returns : tie.Need-returns Inv-loop μ-loop
 returns c = (binds-frame _ _ _ _ _ _ _ _ (c .before .loop .inv), binds-end _ _ _ _ _ _ _ _ (c .before .loop .inv) (omega (arith, c .loop-test .left)))
 
 pub put-bindings-spec : {M : Type 1} → statement M
-put-bindings-spec = tie.close (tie.spec Inv-loop μ-loop word-requires add-p loop-holds put-binding-requires add-p-2 sub-left loop-less loop-again same-length returns)
+put-bindings-spec =
+    tie.close
+    (tie.spec
+    Inv-loop
+    μ-loop
+    word-requires
+    add-p
+    loop-holds
+    put-binding-requires
+    add-p-2
+    sub-left
+    loop-less
+    loop-again
+    same-length
+    returns)

@@ -11,7 +11,7 @@ push-requires c κs = omega (arith, c .before .before .before .before .pre .1)
 write-each-canon-requires : tie.Need-write-each-canon-requires
 write-each-canon-requires c κs =
     let s = c .before .before .before .before .before .before .before .before in
-    (s .pre .0, canons-room _ _ _ (s .pre .0) (s .args .table .now) _ (s .pre .1) _ _ (c .before .before .before .push .ensures .0) (c .before .before .before .push .ensures .1))
+    (s .pre .0, canons-room _ _ _ (s .pre .0) (s .args .table .now) _ (s .pre .1) _ _ _ (c .before .before .before .push .ensures .0) (c .before .before .before .push .ensures .1))
 
 same-length : tie.Need-same-length
 same-length c = search needs

@@ -43,4 +43,16 @@ returns : tie.Need-returns Inv-loop μ-loop
 returns c = (rows-end _ _ _ _ _ _ _ (c .before .before .loop .inv) (omega (arith, c .if1 .left)), rows-place _ _ _ _ _ _ _ (c .before .before .loop .inv) (omega (arith, c .if1 .left)))
 
 pub write-each-canon-spec : {M : Type 1} → statement M
-write-each-canon-spec = tie.close (tie.spec Inv-loop μ-loop loop-holds canon-type-requires push-requires add-i loop-less loop-again same-length returns)
+write-each-canon-spec =
+    tie.close
+    (tie.spec
+    Inv-loop
+    μ-loop
+    loop-holds
+    canon-type-requires
+    push-requires
+    add-i
+    loop-less
+    loop-again
+    same-length
+    returns)

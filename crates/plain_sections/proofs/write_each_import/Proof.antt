@@ -41,4 +41,15 @@ returns : tie.Need-returns Inv-loop μ-loop
 returns c = (rows-end _ _ _ _ _ _ _ (c .before .before .loop .inv) (omega (arith, c .if1 .left)), rows-place _ _ _ _ _ _ _ (c .before .before .loop .inv) (omega (arith, c .if1 .left)))
 
 pub write-each-import-spec : {M : Type 1} → statement M
-write-each-import-spec = tie.close (tie.spec Inv-loop μ-loop loop-holds write-import-requires add-i loop-less loop-again same-length returns)
+write-each-import-spec =
+    tie.close
+    (tie.spec
+    Inv-loop
+    μ-loop
+    loop-holds
+    write-import-requires
+    add-i
+    loop-less
+    loop-again
+    same-length
+    returns)

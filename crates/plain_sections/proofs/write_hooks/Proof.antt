@@ -34,4 +34,12 @@ returns c =
     )
 
 pub write-hooks-spec : {M : Type 1} → statement M
-write-hooks-spec = tie.close (tie.spec push-requires fill-requires put-bindings-requires add-result same-length returns)
+write-hooks-spec =
+    tie.close
+    (tie.spec
+    push-requires
+    fill-requires
+    put-bindings-requires
+    add-result
+    same-length
+    returns)

@@ -31,4 +31,13 @@ returns c =
     )
 
 pub write-import-spec : {M : Type 1} → statement M
-write-import-spec = tie.close (tie.spec import-sig-requires canon-type-requires host-entry-requires push-requires push-requires-2 same-length returns)
+write-import-spec =
+    tie.close
+    (tie.spec
+    import-sig-requires
+    canon-type-requires
+    host-entry-requires
+    push-requires
+    push-requires-2
+    same-length
+    returns)

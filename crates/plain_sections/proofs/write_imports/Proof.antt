@@ -1,6 +1,5 @@
 -- `plain_sections::write_imports` meets its contract.
 use borrow.Author.Needs.{needs}
-use native.Mathlib.Omega.{arith}
 use Rattle.plain_sections.proofs.ImportSteps.{count-room, imports-room, imports-written, imports-end}
 use Rattle.plain_sections.proofs.write_imports.Statement.{statement}
 use Rattle.plain_sections.proofs.write_imports.Tie as tie
@@ -11,7 +10,7 @@ push-requires c κs = let s = c .before .before .before .before in count-room _ 
 write-each-import-requires : tie.Need-write-each-import-requires
 write-each-import-requires c κs =
     let s = c .before .before .before .before .before .before .before .before in
-    (s .pre .0, (s .pre .1 .0, imports-room _ _ _ (s .pre .0) (s .args .table .now) _ (s .pre .1 .1) _ _ (c .before .before .before .push .ensures .0) (c .before .before .before .push .ensures .1)))
+    (s .pre .0, (s .pre .1 .0, imports-room _ _ _ (s .pre .0) (s .args .table .now) _ (s .pre .1 .1) _ _ _ (c .before .before .before .push .ensures .0) (c .before .before .before .push .ensures .1)))
 
 same-length : tie.Need-same-length
 same-length c = search needs

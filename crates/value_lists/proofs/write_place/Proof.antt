@@ -1,6 +1,5 @@
 -- `value_lists::write_place` meets its contract.
 use borrow.Author.Needs.{needs}
-use native.Mathlib.Omega.{arith}
 use Rattle.value_lists.proofs.PlaceSteps.{none-written, none-place, one-room, one-written, one-place}
 use Rattle.value_lists.proofs.write_place.Statement.{statement}
 use Rattle.value_lists.proofs.write_place.Tie as tie

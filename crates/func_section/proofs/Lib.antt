@@ -1,0 +1,7 @@
+pub mod Joining
+pub mod Rules
+pub mod Results
+pub mod HeadSteps
+pub mod MiddleSteps
+pub mod TailSteps
+pub mod SectionSteps
