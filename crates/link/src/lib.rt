@@ -10,7 +10,7 @@ ghost use Rattle.opening.specs.Ready.{Ready};
 ghost use Rattle.writing.specs.Writing.{written};
 ghost use Rattle.link.specs.Parts.{Clear, frontWords, backWords, FrontAt, BackAt, Small, headerOf, tableBy};
 use plain_sections::write_canon;
-use crate::stub::write_funcs;
+use func_section::write_funcs;
 use crate::stub::write_global_references;
 use crate::stub::write_globals;
 use plain_sections::write_hooks;
@@ -41,6 +41,7 @@ pub struct Back {
 // Functions, types, imports, hooks.
 fn write_front(sheet: &[u8], work: &mut [u32], o: Opened, table: &mut [u32], at: usize) -> Front
     requires { ⌜ Ready (firstWords (now sheet) (o .layout .words)) (now work) o ⌝ }
+    requires { ⌜ o .layout .words ≤ 520192 ⌝ }
     requires { ⌜ Clear (moduleIn (firstWords (now sheet) (o .layout .words))) ⌝ }
     requires { ⌜ at + length (frontWords (firstWords (now sheet) (o .layout .words)) (now work) o) ≤ length (now table) ⌝ }
     ensures { λ r. ⌜ now (table .exit) ≡ written (now (table .entry)) at (frontWords (firstWords (now (sheet .entry)) (o .layout .words)) (now (work .entry)) o) ⌝ }
@@ -106,6 +107,7 @@ fn write_header(table: &mut [u32], f: Front, b: Back)
 // The whole table; the answer is its length.
 pub fn write_table(sheet: &[u8], work: &mut [u32], o: Opened, table: &mut [u32]) -> usize
     requires { ⌜ Ready (firstWords (now sheet) (o .layout .words)) (now work) o ⌝ }
+    requires { ⌜ o .layout .words ≤ 520192 ⌝ }
     requires { ⌜ Clear (moduleIn (firstWords (now sheet) (o .layout .words))) ⌝ }
     requires { ⌜ length (tableBy (firstWords (now sheet) (o .layout .words)) (now work) o) ≤ length (now table) ⌝ }
     requires { ⌜ length (tableBy (firstWords (now sheet) (o .layout .words)) (now work) o) < 4294967296 ⌝ }

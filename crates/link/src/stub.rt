@@ -18,18 +18,6 @@ ghost use Rattle.table.specs.Table.{hookSection, canonSection, globalSection, r
 ghost use Rattle.link.specs.Parts.{funcSection, typeSection};
 use opening::Opened;
 
-pub fn write_funcs(sheet: &[u8], work: &mut [u32], o: Opened, table: &mut [u32], at: usize) -> usize
-    requires { ⌜ Ready (firstWords (now sheet) (o .layout .words)) (now work) o ⌝ }
-    requires { ⌜ typesFaults (moduleIn (firstWords (now sheet) (o .layout .words))) ≡ [] ⌝ }
-    requires { ⌜ funcsFaults (moduleIn (firstWords (now sheet) (o .layout .words))) ≡ [] ⌝ }
-    requires { ⌜ at + length (funcSection (firstWords (now sheet) (o .layout .words))) ≤ length (now table) ⌝ }
-    ensures { λ r. ⌜ now (table .exit) ≡ written (now (table .entry)) at (funcSection (firstWords (now (sheet .entry)) (o .layout .words))) ⌝ }
-    ensures { λ r. ⌜ r ≡ at + length (funcSection (firstWords (now (sheet .entry)) (o .layout .words))) ⌝ }
-    ensures { λ r. ⌜ Frame (λ k. k < 6 * o .layout .words) (now (work .entry)) (now (work .exit)) ⌝ }
-{
-    at
-}
-
 pub fn write_types(sheet: &[u8], work: &mut [u32], o: Opened, table: &mut [u32], at: usize) -> usize
     requires { ⌜ Ready (firstWords (now sheet) (o .layout .words)) (now work) o ⌝ }
     requires { ⌜ typesFaults (moduleIn (firstWords (now sheet) (o .layout .words))) ≡ [] ⌝ }

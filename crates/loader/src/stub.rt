@@ -11,6 +11,7 @@ use opening::Opened;
 
 pub fn write_table(sheet: &[u8], work: &mut [u32], o: Opened, table: &mut [u32]) -> usize
     requires { ⌜ Ready (firstWords (now sheet) (o .layout .words)) (now work) o ⌝ }
+    requires { ⌜ o .layout .words ≤ 520192 ⌝ }
     requires { ⌜ Clear (moduleIn (firstWords (now sheet) (o .layout .words))) ⌝ }
     requires { ⌜ length (tableBy (firstWords (now sheet) (o .layout .words)) (now work) o) ≤ length (now table) ⌝ }
     requires { ⌜ length (tableBy (firstWords (now sheet) (o .layout .words)) (now work) o) < 4294967296 ⌝ }

@@ -3,7 +3,7 @@ use Rattle.link.proofs.write_front.Statement.{statement}
 use Rattle.link.proofs.write_front.Tie as tie
 use Rattle.link.proofs.write_front.Reads as reads
 use Rattle.link.proofs.write_front.Lts as lts
-use Rattle.link.proofs.stub.write_funcs.Reads as write-funcs-reads
+use Rattle.func_section.proofs.write_funcs.Reads as write-funcs-reads
 use Rattle.link.proofs.stub.write_types.Reads as write-types-reads
 use Rattle.plain_sections.proofs.write_hooks.Reads as write-hooks-reads
 use Rattle.plain_sections.proofs.write_imports.Reads as write-imports-reads
@@ -11,16 +11,16 @@ use native.Mathlib.Omega.{arith}
 use Rattle.link.proofs.Sections.{funcs-room, types-room, imports-room, hooks-space, front-written, front-at, still-ready, both-kept, places-kept, hook-place}
 
 write-funcs-requires : tie.Need-write-funcs-requires
-write-funcs-requires c κs = (c .before .before .before .before .before .pre .0, (c .before .before .before .before .before .pre .1 .0 .types, (c .before .before .before .before .before .pre .1 .0 .funcs, funcs-room _ _ _ (c .before .before .before .before .before .args .table .now) _ (c .before .before .before .before .before .pre .1 .1))))
+write-funcs-requires c κs = (c .before .before .before .before .before .pre .0, (c .before .before .before .before .before .pre .1 .0, (c .before .before .before .before .before .pre .1 .1 .0 .types, (c .before .before .before .before .before .pre .1 .1 .0 .funcs, funcs-room _ _ _ (c .before .before .before .before .before .args .table .now) _ (c .before .before .before .before .before .pre .1 .1 .1)))))
 
 write-types-requires : tie.Need-write-types-requires
-write-types-requires c κs = (still-ready _ _ _ (c .before .before .before .before .before .before .before .before .before .before .before .before .pre .0) (c .before .before .before .before .before .before .write-funcs .ensures .1 .1), (c .before .before .before .before .before .before .before .before .before .before .before .before .pre .1 .0 .types, types-room _ _ _ (c .before .before .before .before .before .before .before .before .before .before .before .before .args .table .now) _ (c .before .before .before .before .before .before .before .before .before .before .before .before .pre .1 .1) (c .before .before .before .before .before .before .write-funcs .ensures .0) (c .before .before .before .before .before .before .write-funcs .ensures .1 .0)))
+write-types-requires c κs = (still-ready _ _ _ (c .before .before .before .before .before .before .before .before .before .before .before .before .pre .0) (c .before .before .before .before .before .before .write-funcs .ensures .1 .1), (c .before .before .before .before .before .before .before .before .before .before .before .before .pre .1 .1 .0 .types, types-room _ _ _ (c .before .before .before .before .before .before .before .before .before .before .before .before .args .table .now) _ (c .before .before .before .before .before .before .before .before .before .before .before .before .pre .1 .1 .1) (c .before .before .before .before .before .before .write-funcs .ensures .0) (c .before .before .before .before .before .before .write-funcs .ensures .1 .0)))
 
 write-imports-requires : tie.Need-write-imports-requires
-write-imports-requires c κs = (still-ready _ _ _ (still-ready _ _ _ (c .before .before .before .before .before .before .before .before .before .before .before .before .before .before .before .before .before .before .before .pre .0) (c .before .before .before .before .before .before .before .before .before .before .before .before .before .write-funcs .ensures .1 .1)) (c .before .before .before .before .before .before .write-types .ensures .1 .1), (c .before .before .before .before .before .before .before .before .before .before .before .before .before .before .before .before .before .before .before .pre .1 .0 .signed, imports-room _ _ _ (c .before .before .before .before .before .before .before .before .before .before .before .before .before .before .before .before .before .before .before .args .table .now) _ (c .before .before .before .before .before .before .before .before .before .before .before .before .before .before .before .before .before .before .before .pre .1 .1) (c .before .before .before .before .before .before .before .before .before .before .before .before .before .write-funcs .ensures .0) (c .before .before .before .before .before .before .before .before .before .before .before .before .before .write-funcs .ensures .1 .0) (c .before .before .before .before .before .before .write-types .ensures .0) (c .before .before .before .before .before .before .write-types .ensures .1 .0) _ (places-kept _ _ _ (c .before .before .before .before .before .before .before .before .before .before .before .before .before .before .before .before .before .before .before .pre .0) (c .before .before .before .before .before .before .before .before .before .before .before .before .before .write-funcs .ensures .1 .1) (c .before .before .before .before .before .before .write-types .ensures .1 .1))))
+write-imports-requires c κs = (still-ready _ _ _ (still-ready _ _ _ (c .before .before .before .before .before .before .before .before .before .before .before .before .before .before .before .before .before .before .before .pre .0) (c .before .before .before .before .before .before .before .before .before .before .before .before .before .write-funcs .ensures .1 .1)) (c .before .before .before .before .before .before .write-types .ensures .1 .1), (c .before .before .before .before .before .before .before .before .before .before .before .before .before .before .before .before .before .before .before .pre .1 .1 .0 .signed, imports-room _ _ _ (c .before .before .before .before .before .before .before .before .before .before .before .before .before .before .before .before .before .before .before .args .table .now) _ (c .before .before .before .before .before .before .before .before .before .before .before .before .before .before .before .before .before .before .before .pre .1 .1 .1) (c .before .before .before .before .before .before .before .before .before .before .before .before .before .write-funcs .ensures .0) (c .before .before .before .before .before .before .before .before .before .before .before .before .before .write-funcs .ensures .1 .0) (c .before .before .before .before .before .before .write-types .ensures .0) (c .before .before .before .before .before .before .write-types .ensures .1 .0) _ (places-kept _ _ _ (c .before .before .before .before .before .before .before .before .before .before .before .before .before .before .before .before .before .before .before .pre .0) (c .before .before .before .before .before .before .before .before .before .before .before .before .before .write-funcs .ensures .1 .1) (c .before .before .before .before .before .before .write-types .ensures .1 .1))))
 
 write-hooks-requires : tie.Need-write-hooks-requires
-write-hooks-requires c κs = (c .before .before .before .before .before .before .before .before .before .before .before .before .before .before .before .before .before .before .before .before .before .before .before .pre .0 .opens, (c .before .before .before .before .before .before .before .before .before .before .before .before .before .before .before .before .before .before .before .before .before .before .before .pre .1 .0 .hooks, hooks-space _ _ _ (c .before .before .before .before .before .before .before .before .before .before .before .before .before .before .before .before .before .before .before .before .before .before .before .args .table .now) _ (c .before .before .before .before .before .before .before .before .before .before .before .before .before .before .before .before .before .before .before .before .before .before .before .pre .1 .1) (c .before .before .before .before .before .before .before .before .before .before .before .before .before .before .before .before .before .write-funcs .ensures .0) (c .before .before .before .before .before .before .before .before .before .before .before .before .before .before .before .before .before .write-funcs .ensures .1 .0) (c .before .before .before .before .before .before .before .before .before .before .write-types .ensures .0) (c .before .before .before .before .before .before .before .before .before .before .write-types .ensures .1 .0) _ (places-kept _ _ _ (c .before .before .before .before .before .before .before .before .before .before .before .before .before .before .before .before .before .before .before .before .before .before .before .pre .0) (c .before .before .before .before .before .before .before .before .before .before .before .before .before .before .before .before .before .write-funcs .ensures .1 .1) (c .before .before .before .before .before .before .before .before .before .before .write-types .ensures .1 .1)) (c .before .before .before .write-imports .ensures .0) (c .before .before .before .write-imports .ensures .1)))
+write-hooks-requires c κs = (c .before .before .before .before .before .before .before .before .before .before .before .before .before .before .before .before .before .before .before .before .before .before .before .pre .0 .opens, (c .before .before .before .before .before .before .before .before .before .before .before .before .before .before .before .before .before .before .before .before .before .before .before .pre .1 .1 .0 .hooks, hooks-space _ _ _ (c .before .before .before .before .before .before .before .before .before .before .before .before .before .before .before .before .before .before .before .before .before .before .before .args .table .now) _ (c .before .before .before .before .before .before .before .before .before .before .before .before .before .before .before .before .before .before .before .before .before .before .before .pre .1 .1 .1) (c .before .before .before .before .before .before .before .before .before .before .before .before .before .before .before .before .before .write-funcs .ensures .0) (c .before .before .before .before .before .before .before .before .before .before .before .before .before .before .before .before .before .write-funcs .ensures .1 .0) (c .before .before .before .before .before .before .before .before .before .before .write-types .ensures .0) (c .before .before .before .before .before .before .before .before .before .before .write-types .ensures .1 .0) _ (places-kept _ _ _ (c .before .before .before .before .before .before .before .before .before .before .before .before .before .before .before .before .before .before .before .before .before .before .before .pre .0) (c .before .before .before .before .before .before .before .before .before .before .before .before .before .before .before .before .before .write-funcs .ensures .1 .1) (c .before .before .before .before .before .before .before .before .before .before .write-types .ensures .1 .1)) (c .before .before .before .write-imports .ensures .0) (c .before .before .before .write-imports .ensures .1)))
 
 same-length : tie.Need-same-length
 same-length c = search needs
@@ -29,7 +29,7 @@ same-length-2 : tie.Need-same-length-2
 same-length-2 c = search needs
 
 returns : tie.Need-returns
-returns c = (front-written _ _ _ (c .before .before .before .before .before .before .before .before .before .before .before .before .before .before .before .before .before .before .before .before .before .before .before .before .before .before .args .table .now) _ (c .before .before .before .before .before .before .before .before .before .before .before .before .before .before .before .before .before .before .before .before .before .before .before .before .before .before .pre .1 .1) (c .before .before .before .before .before .before .before .before .before .before .before .before .before .before .before .before .before .before .before .before .write-funcs .ensures .0) (c .before .before .before .before .before .before .before .before .before .before .before .before .before .before .before .before .before .before .before .before .write-funcs .ensures .1 .0) (c .before .before .before .before .before .before .before .before .before .before .before .before .before .write-types .ensures .0) (c .before .before .before .before .before .before .before .before .before .before .before .before .before .write-types .ensures .1 .0) _ (places-kept _ _ _ (c .before .before .before .before .before .before .before .before .before .before .before .before .before .before .before .before .before .before .before .before .before .before .before .before .before .before .pre .0) (c .before .before .before .before .before .before .before .before .before .before .before .before .before .before .before .before .before .before .before .before .write-funcs .ensures .1 .1) (c .before .before .before .before .before .before .before .before .before .before .before .before .before .write-types .ensures .1 .1)) (c .before .before .before .before .before .before .write-imports .ensures .0) (c .before .before .before .before .before .before .write-imports .ensures .1) (c .before .before .write-hooks .ensures .0), (front-at _ _ _ (c .before .before .before .before .before .before .before .before .before .before .before .before .before .before .before .before .before .before .before .before .before .before .before .before .before .before .args .table .now) _ (c .before .before .before .before .before .before .before .before .before .before .before .before .before .before .before .before .before .before .before .before .before .before .before .before .before .before .pre .1 .1) (c .before .before .before .before .before .before .before .before .before .before .before .before .before .before .before .before .before .before .before .before .write-funcs .ensures .0) (c .before .before .before .before .before .before .before .before .before .before .before .before .before .before .before .before .before .before .before .before .write-funcs .ensures .1 .0) (c .before .before .before .before .before .before .before .before .before .before .before .before .before .write-types .ensures .0) (c .before .before .before .before .before .before .before .before .before .before .before .before .before .write-types .ensures .1 .0) _ (places-kept _ _ _ (c .before .before .before .before .before .before .before .before .before .before .before .before .before .before .before .before .before .before .before .before .before .before .before .before .before .before .pre .0) (c .before .before .before .before .before .before .before .before .before .before .before .before .before .before .before .before .before .before .before .before .write-funcs .ensures .1 .1) (c .before .before .before .before .before .before .before .before .before .before .before .before .before .write-types .ensures .1 .1)) (c .before .before .before .before .before .before .write-imports .ensures .0) (c .before .before .before .before .before .before .write-imports .ensures .1) (hook-place _ _ (c .before .before .write-hooks .ensures .1)), both-kept _ _ _ (c .before .before .before .before .before .before .before .before .before .before .before .before .before .before .before .before .before .before .before .before .before .before .before .before .before .before .pre .0) (c .before .before .before .before .before .before .before .before .before .before .before .before .before .before .before .before .before .before .before .before .write-funcs .ensures .1 .1) (c .before .before .before .before .before .before .before .before .before .before .before .before .before .write-types .ensures .1 .1)))
+returns c = (front-written _ _ _ (c .before .before .before .before .before .before .before .before .before .before .before .before .before .before .before .before .before .before .before .before .before .before .before .before .before .before .args .table .now) _ (c .before .before .before .before .before .before .before .before .before .before .before .before .before .before .before .before .before .before .before .before .before .before .before .before .before .before .pre .1 .1 .1) (c .before .before .before .before .before .before .before .before .before .before .before .before .before .before .before .before .before .before .before .before .write-funcs .ensures .0) (c .before .before .before .before .before .before .before .before .before .before .before .before .before .before .before .before .before .before .before .before .write-funcs .ensures .1 .0) (c .before .before .before .before .before .before .before .before .before .before .before .before .before .write-types .ensures .0) (c .before .before .before .before .before .before .before .before .before .before .before .before .before .write-types .ensures .1 .0) _ (places-kept _ _ _ (c .before .before .before .before .before .before .before .before .before .before .before .before .before .before .before .before .before .before .before .before .before .before .before .before .before .before .pre .0) (c .before .before .before .before .before .before .before .before .before .before .before .before .before .before .before .before .before .before .before .before .write-funcs .ensures .1 .1) (c .before .before .before .before .before .before .before .before .before .before .before .before .before .write-types .ensures .1 .1)) (c .before .before .before .before .before .before .write-imports .ensures .0) (c .before .before .before .before .before .before .write-imports .ensures .1) (c .before .before .write-hooks .ensures .0), (front-at _ _ _ (c .before .before .before .before .before .before .before .before .before .before .before .before .before .before .before .before .before .before .before .before .before .before .before .before .before .before .args .table .now) _ (c .before .before .before .before .before .before .before .before .before .before .before .before .before .before .before .before .before .before .before .before .before .before .before .before .before .before .pre .1 .1 .1) (c .before .before .before .before .before .before .before .before .before .before .before .before .before .before .before .before .before .before .before .before .write-funcs .ensures .0) (c .before .before .before .before .before .before .before .before .before .before .before .before .before .before .before .before .before .before .before .before .write-funcs .ensures .1 .0) (c .before .before .before .before .before .before .before .before .before .before .before .before .before .write-types .ensures .0) (c .before .before .before .before .before .before .before .before .before .before .before .before .before .write-types .ensures .1 .0) _ (places-kept _ _ _ (c .before .before .before .before .before .before .before .before .before .before .before .before .before .before .before .before .before .before .before .before .before .before .before .before .before .before .pre .0) (c .before .before .before .before .before .before .before .before .before .before .before .before .before .before .before .before .before .before .before .before .write-funcs .ensures .1 .1) (c .before .before .before .before .before .before .before .before .before .before .before .before .before .write-types .ensures .1 .1)) (c .before .before .before .before .before .before .write-imports .ensures .0) (c .before .before .before .before .before .before .write-imports .ensures .1) (hook-place _ _ (c .before .before .write-hooks .ensures .1)), both-kept _ _ _ (c .before .before .before .before .before .before .before .before .before .before .before .before .before .before .before .before .before .before .before .before .before .before .before .before .before .before .pre .0) (c .before .before .before .before .before .before .before .before .before .before .before .before .before .before .before .before .before .before .before .before .write-funcs .ensures .1 .1) (c .before .before .before .before .before .before .before .before .before .before .before .before .before .write-types .ensures .1 .1)))
 
 pub write-front-spec : {M : Type 1} → statement M
 write-front-spec =
