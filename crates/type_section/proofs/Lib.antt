@@ -1,1 +1,5 @@
+pub mod Joins
 pub mod GlobalSteps
+pub mod StructSteps
+pub mod KindSteps
+pub mod TypeSteps

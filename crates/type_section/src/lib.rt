@@ -1,17 +1,143 @@
 // The sections of types and of globals of the linked table.
 ghost use mathlib.Core.Path.{_≡_};
 ghost use mathlib.Core.List.{[]};
-ghost use Prim.Native.Nat.{_+_, _≤_};
+ghost use Prim.Native.Nat.{_+_, _*_, _≤_, _<_};
 ghost use lib.ListN.{length};
 ghost use Rattle.blocks.specs.Frame.{firstWords};
+ghost use Rattle.sheet.specs.Module.{dyn, coroutine, typeAt};
+ghost use Rattle.sheet.specs.Decode.{valueType, typeDef};
+ghost use Rattle.types.specs.Types.{valueFaults, typeFaults, typesFaults};
 ghost use Rattle.imports.specs.Imports.{globalsFaults};
 ghost use Rattle.layout.specs.Opened.{moduleIn};
+ghost use Rattle.region.specs.Region.{Frame};
 ghost use Rattle.opening.specs.Ready.{Opens, Ready};
+ghost use Rattle.table.specs.Records.{typeRecord};
 ghost use Rattle.table.specs.Table.{globalSection, referenceSection};
 ghost use Rattle.writing.specs.Writing.{written};
+ghost use Rattle.type_section.specs.Sections.{Sound, oneAt, twoAt, bodyAt, typeSection};
+use crate::structs::write_struct;
+use blocks::word;
+use error::TypeId;
 use opening::Opened;
+use opening::type_at;
+use param_registers::canon_at;
 use value_lists::write_references;
 use value_lists::write_values;
+use writing::push;
+
+pub mod structs;
+
+// The canonical word of the value type at position q.
+fn write_one(
+    sheet: &[u8],
+    work: &[u32],
+    o: Opened,
+    q: usize,
+    table: &mut [u32],
+    at: usize,
+) -> usize
+    requires { ⌜ Ready (firstWords (now sheet) (o .layout .words)) (now work) o ⌝ }
+    requires { ⌜ Sound valueType dyn valueFaults (firstWords (now sheet) (o .layout .words)) q ⌝ }
+    requires { ⌜ at + length (oneAt (firstWords (now sheet) (o .layout .words)) q) ≤ length (now table) ⌝ }
+    ensures { λ r. ⌜ now (table .exit) ≡ written (now (table .entry)) at (oneAt (firstWords (now (sheet .entry)) (o .layout .words)) q) ⌝ }
+    ensures { λ r. ⌜ r ≡ at + length (oneAt (firstWords (now (sheet .entry)) (o .layout .words)) q) ⌝ }
+{
+    let canon = canon_at(sheet, work, o, q);
+    push(table, at, canon)
+}
+
+// Key before value.
+fn write_two(
+    sheet: &[u8],
+    work: &[u32],
+    o: Opened,
+    q: usize,
+    table: &mut [u32],
+    at: usize,
+) -> usize
+    requires { ⌜ Ready (firstWords (now sheet) (o .layout .words)) (now work) o ⌝ }
+    requires { ⌜ Sound valueType dyn valueFaults (firstWords (now sheet) (o .layout .words)) q ⌝ }
+    requires { ⌜ Sound valueType dyn valueFaults (firstWords (now sheet) (o .layout .words)) (q + 1) ⌝ }
+    requires { ⌜ at + length (twoAt (firstWords (now sheet) (o .layout .words)) q) ≤ length (now table) ⌝ }
+    ensures { λ r. ⌜ now (table .exit) ≡ written (now (table .entry)) at (twoAt (firstWords (now (sheet .entry)) (o .layout .words)) q) ⌝ }
+    ensures { λ r. ⌜ r ≡ at + length (twoAt (firstWords (now (sheet .entry)) (o .layout .words)) q) ⌝ }
+{
+    let p = write_one(sheet, work, o, q, table, at);
+    write_one(sheet, work, o, q + 1, table, p)
+}
+
+// What follows the kind word of the type at position q.
+fn write_body(
+    sheet: &[u8],
+    work: &mut [u32],
+    o: Opened,
+    q: usize,
+    table: &mut [u32],
+    at: usize,
+) -> usize
+    requires { ⌜ Ready (firstWords (now sheet) (o .layout .words)) (now work) o ⌝ }
+    requires { ⌜ Sound typeDef coroutine typeFaults (firstWords (now sheet) (o .layout .words)) q ⌝ }
+    requires { ⌜ at + length (bodyAt (firstWords (now sheet) (o .layout .words)) q) ≤ length (now table) ⌝ }
+    ensures { λ r. ⌜ now (table .exit) ≡ written (now (table .entry)) at (bodyAt (firstWords (now (sheet .entry)) (o .layout .words)) q) ⌝ }
+    ensures { λ r. ⌜ r ≡ at + length (bodyAt (firstWords (now (sheet .entry)) (o .layout .words)) q) ⌝ }
+    ensures { λ r. ⌜ Frame (λ k. k < 6 * o .layout .words) (now (work .entry)) (now (work .exit)) ⌝ }
+{
+    match word(sheet, q) {
+        1 => write_struct(sheet, work, o, q + 1, table, at),
+        2 => write_one(sheet, work, o, q + 1, table, at),
+        3 => write_two(sheet, work, o, q + 1, table, at),
+        4 => write_one(sheet, work, o, q + 1, table, at),
+        5 => write_two(sheet, work, o, q + 1, table, at),
+        _ => at,
+    }
+}
+
+// The record of type t.
+fn write_type(
+    sheet: &[u8],
+    work: &mut [u32],
+    o: Opened,
+    t: TypeId,
+    table: &mut [u32],
+    at: usize,
+) -> usize
+    requires { ⌜ Ready (firstWords (now sheet) (o .layout .words)) (now work) o ⌝ }
+    requires { ⌜ typesFaults (moduleIn (firstWords (now sheet) (o .layout .words))) ≡ [] ⌝ }
+    requires { ⌜ t .0 < o .counts .types ⌝ }
+    requires { ⌜ at + length (typeRecord (moduleIn (firstWords (now sheet) (o .layout .words))) (typeAt (moduleIn (firstWords (now sheet) (o .layout .words)) .types) (t .0))) ≤ length (now table) ⌝ }
+    ensures { λ r. ⌜ now (table .exit) ≡ written (now (table .entry)) at (typeRecord (moduleIn (firstWords (now (sheet .entry)) (o .layout .words))) (typeAt (moduleIn (firstWords (now (sheet .entry)) (o .layout .words)) .types) (t .0))) ⌝ }
+    ensures { λ r. ⌜ r ≡ at + length (typeRecord (moduleIn (firstWords (now (sheet .entry)) (o .layout .words))) (typeAt (moduleIn (firstWords (now (sheet .entry)) (o .layout .words)) .types) (t .0))) ⌝ }
+    ensures { λ r. ⌜ Frame (λ k. k < 6 * o .layout .words) (now (work .entry)) (now (work .exit)) ⌝ }
+{
+    let q = type_at(work, o, t);
+    let kind = word(sheet, q);
+    let p = push(table, at, kind);
+    write_body(sheet, work, o, q, table, p)
+}
+
+// The count, then the record of each type. Words of work below 6 * words stay as they are.
+pub fn write_types(
+    sheet: &[u8],
+    work: &mut [u32],
+    o: Opened,
+    table: &mut [u32],
+    at: usize,
+) -> usize
+    requires { ⌜ Ready (firstWords (now sheet) (o .layout .words)) (now work) o ⌝ }
+    requires { ⌜ typesFaults (moduleIn (firstWords (now sheet) (o .layout .words))) ≡ [] ⌝ }
+    requires { ⌜ at + length (typeSection (moduleIn (firstWords (now sheet) (o .layout .words)))) ≤ length (now table) ⌝ }
+    ensures { λ r. ⌜ now (table .exit) ≡ written (now (table .entry)) at (typeSection (moduleIn (firstWords (now (sheet .entry)) (o .layout .words)))) ⌝ }
+    ensures { λ r. ⌜ r ≡ at + length (typeSection (moduleIn (firstWords (now (sheet .entry)) (o .layout .words)))) ⌝ }
+    ensures { λ r. ⌜ Frame (λ k. k < 6 * o .layout .words) (now (work .entry)) (now (work .exit)) ⌝ }
+{
+    let mut p = push(table, at, o.counts.types);
+    let mut i = 0;
+    while i < o.counts.types {
+        p = write_type(sheet, work, o, TypeId(i), table, p);
+        i += 1;
+    }
+    p
+}
 
 // The count, then the canonical word of each global's type.
 pub fn write_globals(
