@@ -21,7 +21,7 @@ use Rattle.opening.specs.Ready.{Ready, Opens}
 use Rattle.opening.specs.ReadyLaws.{ready-below, imports-inside}
 use Rattle.link.specs.declared.Front.{Front}
 use Rattle.link.specs.declared.Back.{Back}
-use Rattle.plain_sections.specs.SectionLaws.{canon-length}
+use Rattle.plain_sections.specs.SectionLaws.{canon-length, hook-length}
 use Rattle.plain_sections.specs.Sections.{linkedImport, linkedImports, eachOf}
 use Rattle.link.specs.Parts.{Clear, funcSection, typeSection, frontWords, backWords, FrontAt, BackAt, Small, headerOf, tableBy}
 
@@ -72,11 +72,6 @@ module _ (w : List ℕ) (at : ℕ) (s₁ s₂ s₃ s₄ : List ℕ) (room : at +
 
 -- ── functions, types, imports, hooks ──
 
-pub hook-length : (ws : List ℕ) → length (hookSection (moduleIn ws)) ≡ 32
-unfolding hookSection
-hook-length ws = refl
-
-
 module _ (ws w : List ℕ) (o : Opened) (tb : List ℕ) (at : ℕ) (room : at + length (frontWords ws w o) ≤ length tb) where
   abbrev F : List ℕ
   F = funcSection ws
@@ -116,7 +111,7 @@ module _ (ws w : List ℕ) (o : Opened) (tb : List ℕ) (at : ℕ) (room : at + 
         hooks-room = fourth-room tb at F T I H parted a pa b qb c′ sc′
 
         pub hooks-space : s + 32 ≤ length t
-        hooks-space = omega (arith, hooks-room, hook-length ws)
+        hooks-space = omega (arith, hooks-room, hook-length (moduleIn ws))
 
         pub front-written : {x : List ℕ} → x ≡ written t s (hookSection (moduleIn ws)) → x ≡ written tb at (frontWords ws w o)
         unfolding frontWords
@@ -253,7 +248,7 @@ module _ (ws w : List ℕ) (o : Opened) where
           x .end,
           length-append (funcSection ws) (typeSection ws),
           length-append (funcSection ws ++ typeSection ws) (linkedImports ws w o),
-          length-append (funcSection ws ++ typeSection ws ++ linkedImports ws w o) (hookSection (moduleIn ws))
+          length-append (funcSection ws ++ typeSection ws ++ linkedImports ws w o) (hookSection (moduleIn ws)),
         )
 
     module _ (b : Back) (y : BackAt ws (f .end) b) where
@@ -268,7 +263,7 @@ module _ (ws w : List ℕ) (o : Opened) where
             y .end,
             length-append (canonSection (moduleIn ws)) (globalSection (moduleIn ws)),
             length-append (canonSection (moduleIn ws) ++ globalSection (moduleIn ws)) (referenceSection (moduleIn ws)),
-            length-append (canonSection (moduleIn ws) ++ globalSection (moduleIn ws) ++ referenceSection (moduleIn ws)) (spanSection mostOnChain (moduleIn ws))
+            length-append (canonSection (moduleIn ws) ++ globalSection (moduleIn ws) ++ referenceSection (moduleIn ws)) (spanSection mostOnChain (moduleIn ws)),
           )
 
       pub end-length : b .end ≡ length (tableBy ws w o)
@@ -402,7 +397,7 @@ module _ (ws w : List ℕ) (o : Opened) (x : Ready ws w o) {v : List ℕ} (f : F
 -- ── lengths as code gives them ──
 
 pub hook-place : (ws : List ℕ) (at : ℕ) {r : ℕ} → r ≡ at + 32 → r ≡ at + length (hookSection (moduleIn ws))
-hook-place ws at e = omega (arith, e, hook-length ws)
+hook-place ws at e = omega (arith, e, hook-length (moduleIn ws))
 
 pub canon-place : (ws : List ℕ) (at : ℕ) {r : ℕ} → r ≡ at + 1 + length (moduleIn ws .types) → r ≡ at + length (canonSection (moduleIn ws))
 canon-place ws at e = omega (arith, e, canon-length (moduleIn ws))

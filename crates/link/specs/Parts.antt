@@ -11,7 +11,8 @@ use Rattle.types.specs.Types.{typesFaults}
 use Rattle.parents.specs.Parents.{mostOnChain, parentsFaults}
 use Rattle.imports.specs.Imports.{globalsFaults}
 use Rattle.funcs.specs.Funcs.{funcsFaults}
-use Rattle.table.specs.Records.{typeRecord, funcRecord}
+use Rattle.type_section.specs.Sections as types
+use Rattle.table.specs.Records.{funcRecord}
 use Rattle.table.specs.Table.{joined, hookSection, canonSection, globalSection, referenceSection, spanSection}
 use Rattle.opening.specs.declared.Opened.{Opened}
 use Rattle.link.specs.declared.Front.{Front}
@@ -32,7 +33,7 @@ module _ (ws : List ℕ) where
   funcSection = encodeList (funcRecord (moduleIn ws)) (moduleIn ws .funcs)
 
   abbrev pub typeSection : List ℕ
-  typeSection = encodeList (typeRecord (moduleIn ws)) (moduleIn ws .types)
+  typeSection = types.typeSection (moduleIn ws)
 
   -- functions, types, imports with their places in w, hooks
   unfoldable pub frontWords : List ℕ → Opened → List ℕ

@@ -9,18 +9,16 @@ ghost use Rattle.region.specs.Region.{Frame};
 ghost use Rattle.opening.specs.Ready.{Ready};
 ghost use Rattle.writing.specs.Writing.{written};
 ghost use Rattle.link.specs.Parts.{Clear, frontWords, backWords, FrontAt, BackAt, Small, headerOf, tableBy};
-use plain_sections::write_canon;
 use func_section::write_funcs;
-use crate::stub::write_global_references;
-use crate::stub::write_globals;
+use opening::Opened;
+use plain_sections::write_canon;
 use plain_sections::write_hooks;
 use plain_sections::write_imports;
 use span_section::write_spans;
-use crate::stub::write_types;
-use opening::Opened;
+use type_section::write_global_references;
+use type_section::write_globals;
+use type_section::write_types;
 use writing::push;
-
-mod stub;
 
 // Where the types', imports' and hooks' sections start, and where the last ends.
 pub struct Front {

@@ -71,7 +71,7 @@ fits sheet hosts work l n table h a =
             a .few,
             a .stated,
             decode-length sheet m h (opening-inv sheet hosts (length table) work m hs (a .opens) .holds),
-            table-few mostOnChain hs m
+            table-few mostOnChain hs m,
           );
     }
 
@@ -101,17 +101,17 @@ module _ (sheet hosts table work : List ℕ) {i : Inputs} (e : i ≡ inputsOf (c
     refused-work = sym (ap (λ (x : load.Opened). workThen x work) closed)
 
   module _ (l : Layout) (n : ℕ) (h : i ≡ Inputs.Intact l n) where
-    open : opening sheet hosts (length table) (length work) ≡ opened (moduleIn (firstWords sheet (l .words))) (hostsIn (firstWords hosts n))
-    open = inputs-intact sheet hosts (length table) (length work) e l n h .opens
+    opens : opening sheet hosts (length table) (length work) ≡ opened (moduleIn (firstWords sheet (l .words))) (hostsIn (firstWords hosts n))
+    opens = inputs-intact sheet hosts (length table) (length work) e l n h .opens
 
     pub intact-answer : {r : Loaded} → r ≡ answered (hostsIn (firstWords hosts n)) (moduleIn (firstWords sheet (l .words))) → r ≡ load sheet hosts (length table) (length work)
     unfolding load answer answered
-    intact-answer q = q ∙ sym (ap (λ (x : load.Opened). answer x) open)
+    intact-answer q = q ∙ sym (ap (λ (x : load.Opened). answer x) opens)
 
     pub intact-table : {t : List ℕ} → t ≡ tableLeft (hostsIn (firstWords hosts n)) (moduleIn (firstWords sheet (l .words))) table → t ≡ tableAfter sheet hosts table work
     unfolding tableAfter tableThen tableLeft
-    intact-table q = q ∙ sym (ap (λ (x : load.Opened). tableThen x table) open)
+    intact-table q = q ∙ sym (ap (λ (x : load.Opened). tableThen x table) opens)
 
     pub intact-work : {v : List ℕ} → Zeroed work v → v ≡ workAfter sheet hosts table work
     unfolding workAfter workThen Zeroed
-    intact-work q = q ∙ sym (ap (λ (x : load.Opened). workThen x work) open)
+    intact-work q = q ∙ sym (ap (λ (x : load.Opened). workThen x work) opens)

@@ -15,7 +15,6 @@ ghost use Rattle.opening.specs.Ready.{Ready};
 ghost use Rattle.load.specs.Load.{load, tableAfter, workAfter};
 ghost use Rattle.rules.specs.Unlinked.{Zeroed};
 ghost use Rattle.loader.specs.Linking.{Fits, answered, tableLeft};
-use crate::stub::write_table;
 use error::Judged;
 use error::LoadError;
 use error::LoadErrorKind;
@@ -23,15 +22,21 @@ use error::Loaded;
 use inputs::Inputs;
 use inputs::check_inputs;
 use layout::Layout;
+use link::write_table;
 use opening::Opened;
 use opening::open_sheet;
 use region::fill;
 use rules::check_module;
 
-mod stub;
-
 // The rules, and where they hold the table.
-fn link_module(sheet: &[u8], hosts: &[u8], n: usize, o: Opened, table: &mut [u32], work: &mut [u32]) -> Loaded
+fn link_module(
+    sheet: &[u8],
+    hosts: &[u8],
+    n: usize,
+    o: Opened,
+    table: &mut [u32],
+    work: &mut [u32],
+) -> Loaded
     requires { ⌜ Ready (firstWords (now sheet) (o .layout .words)) (now work) o ⌝ }
     requires { ⌜ o .layout .words ≤ 520192 ⌝ }
     requires { ⌜ Whole (listOf hostFn (firstWords (now hosts) n) 2) ⌝ }
@@ -49,7 +54,14 @@ fn link_module(sheet: &[u8], hosts: &[u8], n: usize, o: Opened, table: &mut [u32
 }
 
 // Work is zero after the rules.
-fn load_intact(sheet: &[u8], l: Layout, hosts: &[u8], n: usize, table: &mut [u32], work: &mut [u32]) -> Loaded
+fn load_intact(
+    sheet: &[u8],
+    l: Layout,
+    hosts: &[u8],
+    n: usize,
+    table: &mut [u32],
+    work: &mut [u32],
+) -> Loaded
     requires { ⌜ Located (firstWords (now sheet) (l .words)) (moduleIn (firstWords (now sheet) (l .words))) l ⌝ }
     requires { ⌜ l .words ≤ 520192 ⌝ }
     requires { ⌜ 64 + 8 * l .words ≤ length (now work) ⌝ }

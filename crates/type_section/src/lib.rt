@@ -28,14 +28,7 @@ use writing::push;
 pub mod structs;
 
 // The canonical word of the value type at position q.
-fn write_one(
-    sheet: &[u8],
-    work: &[u32],
-    o: Opened,
-    q: usize,
-    table: &mut [u32],
-    at: usize,
-) -> usize
+fn write_one(sheet: &[u8], work: &[u32], o: Opened, q: usize, table: &mut [u32], at: usize) -> usize
     requires { ⌜ Ready (firstWords (now sheet) (o .layout .words)) (now work) o ⌝ }
     requires { ⌜ Sound valueType dyn valueFaults (firstWords (now sheet) (o .layout .words)) q ⌝ }
     requires { ⌜ at + length (oneAt (firstWords (now sheet) (o .layout .words)) q) ≤ length (now table) ⌝ }
@@ -47,14 +40,7 @@ fn write_one(
 }
 
 // Key before value.
-fn write_two(
-    sheet: &[u8],
-    work: &[u32],
-    o: Opened,
-    q: usize,
-    table: &mut [u32],
-    at: usize,
-) -> usize
+fn write_two(sheet: &[u8], work: &[u32], o: Opened, q: usize, table: &mut [u32], at: usize) -> usize
     requires { ⌜ Ready (firstWords (now sheet) (o .layout .words)) (now work) o ⌝ }
     requires { ⌜ Sound valueType dyn valueFaults (firstWords (now sheet) (o .layout .words)) q ⌝ }
     requires { ⌜ Sound valueType dyn valueFaults (firstWords (now sheet) (o .layout .words)) (q + 1) ⌝ }
@@ -116,13 +102,7 @@ fn write_type(
 }
 
 // The count, then the record of each type. Words of work below 6 * words stay as they are.
-pub fn write_types(
-    sheet: &[u8],
-    work: &mut [u32],
-    o: Opened,
-    table: &mut [u32],
-    at: usize,
-) -> usize
+pub fn write_types(sheet: &[u8], work: &mut [u32], o: Opened, table: &mut [u32], at: usize) -> usize
     requires { ⌜ Ready (firstWords (now sheet) (o .layout .words)) (now work) o ⌝ }
     requires { ⌜ typesFaults (moduleIn (firstWords (now sheet) (o .layout .words))) ≡ [] ⌝ }
     requires { ⌜ at + length (typeSection (moduleIn (firstWords (now sheet) (o .layout .words)))) ≤ length (now table) ⌝ }
@@ -140,13 +120,7 @@ pub fn write_types(
 }
 
 // The count, then the canonical word of each global's type.
-pub fn write_globals(
-    sheet: &[u8],
-    work: &[u32],
-    o: Opened,
-    table: &mut [u32],
-    at: usize,
-) -> usize
+pub fn write_globals(sheet: &[u8], work: &[u32], o: Opened, table: &mut [u32], at: usize) -> usize
     requires { ⌜ Ready (firstWords (now sheet) (o .layout .words)) (now work) o ⌝ }
     requires { ⌜ globalsFaults (moduleIn (firstWords (now sheet) (o .layout .words))) ≡ [] ⌝ }
     requires { ⌜ at + length (globalSection (moduleIn (firstWords (now sheet) (o .layout .words)))) ≤ length (now table) ⌝ }
@@ -159,12 +133,7 @@ pub fn write_globals(
 }
 
 // The count, then the numbers of the globals that hold a reference.
-pub fn write_global_references(
-    sheet: &[u8],
-    o: Opened,
-    table: &mut [u32],
-    at: usize,
-) -> usize
+pub fn write_global_references(sheet: &[u8], o: Opened, table: &mut [u32], at: usize) -> usize
     requires { ⌜ Opens (firstWords (now sheet) (o .layout .words)) o ⌝ }
     requires { ⌜ at + length (referenceSection (moduleIn (firstWords (now sheet) (o .layout .words)))) ≤ length (now table) ⌝ }
     ensures { λ r. ⌜ now (table .exit) ≡ written (now (table .entry)) at (referenceSection (moduleIn (firstWords (now (sheet .entry)) (o .layout .words)))) ⌝ }

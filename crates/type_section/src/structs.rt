@@ -40,16 +40,7 @@ fn write_fields(
     let parent = word(sheet, at_struct + 1);
     let p = push(table, at, parent);
     let q = write_values(sheet, work, o, fields + 2, 2, count, table, p);
-    write_references(
-        sheet,
-        o.layout.words,
-        fields + 2,
-        2,
-        count,
-        65535,
-        table,
-        q,
-    )
+    write_references(sheet, o.layout.words, fields + 2, 2, count, 65535, table, q)
 }
 
 // The names of fields before those of methods.

@@ -1,9 +1,7 @@
+-- `link::push_four` meets its contract.
 use borrow.Author.Needs.{needs}
 use Rattle.link.proofs.push_four.Statement.{statement}
 use Rattle.link.proofs.push_four.Tie as tie
-use Rattle.link.proofs.push_four.Reads as reads
-use Rattle.link.proofs.push_four.Lts as lts
-use Rattle.writing.proofs.push.Reads as push-reads
 use native.Mathlib.Omega.{arith}
 use Rattle.link.proofs.Sections.{pushed-four}
 

@@ -1,12 +1,7 @@
+-- `link::write_back` meets its contract.
 use borrow.Author.Needs.{needs}
 use Rattle.link.proofs.write_back.Statement.{statement}
 use Rattle.link.proofs.write_back.Tie as tie
-use Rattle.link.proofs.write_back.Reads as reads
-use Rattle.link.proofs.write_back.Lts as lts
-use Rattle.link.proofs.stub.write_global_references.Reads as write-global-references-reads
-use Rattle.link.proofs.stub.write_globals.Reads as write-globals-reads
-use Rattle.plain_sections.proofs.write_canon.Reads as write-canon-reads
-use Rattle.span_section.proofs.write_spans.Reads as write-spans-reads
 use native.Mathlib.Omega.{arith}
 use Rattle.link.proofs.Sections.{canon-space, globals-room, references-room, spans-room, back-written, back-at, canon-place}
 

@@ -1,12 +1,7 @@
+-- `link::write_front` meets its contract.
 use borrow.Author.Needs.{needs}
 use Rattle.link.proofs.write_front.Statement.{statement}
 use Rattle.link.proofs.write_front.Tie as tie
-use Rattle.link.proofs.write_front.Reads as reads
-use Rattle.link.proofs.write_front.Lts as lts
-use Rattle.func_section.proofs.write_funcs.Reads as write-funcs-reads
-use Rattle.link.proofs.stub.write_types.Reads as write-types-reads
-use Rattle.plain_sections.proofs.write_hooks.Reads as write-hooks-reads
-use Rattle.plain_sections.proofs.write_imports.Reads as write-imports-reads
 use native.Mathlib.Omega.{arith}
 use Rattle.link.proofs.Sections.{funcs-room, types-room, imports-room, hooks-space, front-written, front-at, still-ready, both-kept, places-kept, hook-place}
 

@@ -1,10 +1,7 @@
+-- `link::write_header` meets its contract.
 use borrow.Author.Needs.{needs}
 use Rattle.link.proofs.write_header.Statement.{statement}
 use Rattle.link.proofs.write_header.Tie as tie
-use Rattle.link.proofs.write_header.Reads as reads
-use Rattle.link.proofs.write_header.Lts as lts
-use Rattle.link.proofs.push_four.Reads as push-four-reads
-use Rattle.writing.proofs.push.Reads as push-reads
 use native.Mathlib.Omega.{arith}
 use Rattle.link.proofs.Sections.{second-word, third-words, last-words, header-written}
 

@@ -1,11 +1,7 @@
+-- `link::write_table` meets its contract.
 use borrow.Author.Needs.{needs}
 use Rattle.link.proofs.write_table.Statement.{statement}
 use Rattle.link.proofs.write_table.Tie as tie
-use Rattle.link.proofs.write_table.Reads as reads
-use Rattle.link.proofs.write_table.Lts as lts
-use Rattle.link.proofs.write_back.Reads as write-back-reads
-use Rattle.link.proofs.write_front.Reads as write-front-reads
-use Rattle.link.proofs.write_header.Reads as write-header-reads
 use native.Mathlib.Omega.{arith}
 use Rattle.link.proofs.Sections.{front-space, back-space, header-space, still-ready, end-length, all-small, table-written}
 
