@@ -40,12 +40,6 @@ use Rattle.loader.specs.Linking.{Fits, answered, tableLeft}
 -- ── a sheet that was opened ──
 
 module _ (b w : List ℕ) (l : Layout) (o : Opened) (x : (o .layout ≡ l) × Ready (firstWords b (l .words)) w o) where
-  pub opened-ready : Ready (firstWords b (o .layout .words)) w o
-  opened-ready = subst (λ (k : Layout). Ready (firstWords b (k .words)) w o) (sym (x .0)) (x .1)
-
-  pub opened-few : l .words ≤ 520192 → o .layout .words ≤ 520192
-  opened-few h = subst (λ (k : Layout). k .words ≤ 520192) (sym (x .0)) h
-
   pub opened-fits : (hs : List HostFn) (table : List ℕ) → Fits hs (moduleIn (firstWords b (l .words))) table → Fits hs (moduleIn (firstWords b (o .layout .words))) table
   opened-fits hs table f = subst (λ (k : Layout). Fits hs (moduleIn (firstWords b (k .words))) table) (sym (x .0)) f
 

@@ -3,8 +3,7 @@ use Prim.Native.Nat.{ℕ, _+_, _*_, _≤_, _<_}
 use mathlib.Core.Path.{_≡_, refl, sym, ap, subst, _∙_}
 use mathlib.Core.List.{List, [], _∷_}
 use native.Mathlib.Omega.{arith}
-use lib.ListN.{length, getD, replicate, length-replicate, getD-replicate}
-use lib.Seq.{ext-getD}
+use lib.ListN.{length}
 use Rattle.blocks.specs.Frame.{firstWords}
 use Rattle.error.specs.declared.LoadErrorKind.{LoadErrorKind}
 use Rattle.error.specs.declared.LoadError.{LoadError}
@@ -24,7 +23,6 @@ use Rattle.layout.specs.Layout.{layout, checkedOf}
 use Rattle.layout.specs.LayoutLaws.{Located}
 use Rattle.layout.specs.Opened.{moduleIn}
 use Rattle.parents.specs.Parents.{mostOnChain}
-use Rattle.region.specs.Region.{wordAt, Off, Frame}
 use Rattle.opening.specs.declared.Opened.{Opened}
 use Rattle.opening.specs.Ready.{Ready}
 use Rattle.table.specs.Table.{tableWords}
@@ -55,25 +53,10 @@ judged-first fs e k = k ∙ ap loadedOf e ∙ go fs
 -- ── a sheet that was opened ──
 
 module _ (b w : List ℕ) (l : Layout) (o : Opened) (x : (o .layout ≡ l) × Ready (firstWords b (l .words)) w o) where
-  pub opened-ready : Ready (firstWords b (o .layout .words)) w o
-  opened-ready = subst (λ (k : Layout). Ready (firstWords b (k .words)) w o) (sym (x .0)) (x .1)
-
-  pub opened-few : l .words ≤ 520192 → o .layout .words ≤ 520192
-  opened-few h = subst (λ (k : Layout). k .words ≤ 520192) (sym (x .0)) h
-
   pub opened-first : (hs : List HostFn) {j : Judged} {r : Loaded} → j ≡ judgedOf (moduleFaults mostOnChain hs (moduleIn (firstWords b (o .layout .words)))) →
       r ≡ loadedOf j → r ≡ first 0 (moduleFaults mostOnChain hs (moduleIn (firstWords b (l .words))))
   opened-first hs e k =
       judged-first (moduleFaults mostOnChain hs (moduleIn (firstWords b (l .words)))) (e ∙ ap (λ (k : Layout). judgedOf (moduleFaults mostOnChain hs (moduleIn (firstWords b (k .words))))) (x .0)) k
-
--- ── what was filled from the first word to the last ──
-
-pub filled-zero : (u w v : List ℕ) (n : ℕ) → Frame (Off 0 (0 + n)) w v → ((p : ℕ) → p < n → wordAt v 0 p ≡ 0) → length w ≡ length u → n ≡ length w → Zeroed u v
-unfolding Zeroed
-filled-zero u w v n f g a b =
-    ext-getD 0 v (replicate (length u) 0) (omega (arith, f .len, length-replicate {A = ℕ} (length u) 0)) λ i h.
-    let z : i ≡ 0 + i = omega arith in
-    ap (λ k. getD v k 0) z ∙ g i (omega (arith, f .len)) ∙ sym (getD-replicate (length u) i 0 0 (omega (arith, f .len)))
 
 -- ── the answer to any bytes ──
 

@@ -1,3 +1,4 @@
 pub mod Groups
 pub mod GroupLaws
 pub mod Unlinked
+pub mod OpenedLaws

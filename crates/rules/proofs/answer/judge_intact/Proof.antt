@@ -2,7 +2,8 @@
 use borrow.Author.Needs.{needs}
 use Rattle.rules.proofs.answer.judge_intact.Statement.{statement}
 use Rattle.rules.proofs.answer.judge_intact.Tie as tie
-use Rattle.rules.proofs.AnswerSteps.{opened-ready, opened-few, opened-first, filled-zero}
+use Rattle.rules.specs.OpenedLaws.{opened-ready, opened-few, filled-zero}
+use Rattle.rules.proofs.AnswerSteps.{opened-first}
 
 open-sheet-requires : tie.Need-open-sheet-requires
 open-sheet-requires c κs = search (needs, opened-ready, opened-few, opened-first, filled-zero)
