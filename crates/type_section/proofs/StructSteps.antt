@@ -29,7 +29,7 @@ use Rattle.table.specs.Records.{lastSlot, references, canonWords, fieldNames, m
 use Rattle.value_lists.specs.Values.{valuesAt, Values, Present}
 use Rattle.value_lists.specs.ValuesLaws.{values-length, values-present, values-fields, fields-values}
 use Rattle.name_lists.specs.Names.{namedFields, fieldList, methodList, nameFaults, methodsFaults, field-names, method-names}
-use Rattle.type_section.specs.Sections.{Sound, structIn, structAt, fieldWords, nameWords}
+use Rattle.type_section.specs.TypeParts.{Sound, structIn, structAt, fieldWords, nameWords}
 use Rattle.type_section.proofs.Joins.{Put, front-room, put-is, put-room, put-then}
 
 -- ── where its parts stand ──
@@ -49,8 +49,7 @@ fields-end : (b : List ℕ) (n at : ℕ) (fs : List Field) (q : ℕ) → listOf 
 unfolding encodeField encodeValue
 fields-end b n at fs q e =
     let s : Stands (firstWords b n) at (length fs ∷ concatMap encodeField fs) q = list-codes (firstWords b n) fieldOf encodeField codedField (field-codes (firstWords b n)) .found at fs q e .stands in
-    let z : at ≡ at + 0 = omega arith in
-    (
+    let z : at ≡ at + 0 = omega arith in (
       sym (firstWords-at b n at (list-within fieldOf b n at (got-whole e))) ∙ ap (λ k. getD (firstWords b n) k 0) z ∙ stands-at (firstWords b n) s 0 (omega arith),
       omega (arith, s .end, length-concatMap encodeField 2 (λ f. refl) fs),
     )

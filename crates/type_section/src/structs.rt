@@ -11,7 +11,7 @@ ghost use Rattle.region.specs.Region.{Frame};
 ghost use Rattle.opening.specs.Ready.{Ready};
 ghost use Rattle.table.specs.Records.{structRecord};
 ghost use Rattle.writing.specs.Writing.{written};
-ghost use Rattle.type_section.specs.Sections.{Sound, structAt, fieldWords, nameWords};
+ghost use Rattle.type_section.specs.TypeParts.{Sound, structAt, fieldWords, nameWords};
 use blocks::word;
 use name_lists::write_field_names;
 use name_lists::write_method_names;
@@ -40,16 +40,7 @@ fn write_fields(
     let parent = word(sheet, at_struct + 1);
     let p = push(table, at, parent);
     let q = write_values(sheet, work, o, fields + 2, 2, count, table, p);
-    write_references(
-        sheet,
-        o.layout.words,
-        fields + 2,
-        2,
-        count,
-        65535,
-        table,
-        q,
-    )
+    write_references(sheet, o.layout.words, fields + 2, 2, count, 65535, table, q)
 }
 
 // The names of fields before those of methods.
