@@ -1,6 +1,6 @@
 -- Types by number, one record after the other.
 use Prim.Native.Nat.{ℕ, _+_, _*_, _≤_, _<_}
-use mathlib.Core.Path.{_≡_, refl, sym, ap, ap₂, _∙_}
+use mathlib.Core.Path.{_≡_, ap, ap₂, _∙_}
 use mathlib.Core.List.{List, [], _∷_, _++_}
 use native.Mathlib.Omega.{arith}
 use lib.ListN.{length, getD}
@@ -21,7 +21,7 @@ use Rattle.opening.specs.declared.Opened.{Opened}
 use Rattle.opening.specs.Ready.{Ready, posAt}
 use Rattle.opening.specs.ReadyLaws.{count-types, types-in, entry-room, entry-whole, entry-value}
 use Rattle.table.specs.Records.{typeBody, typeRecord}
-use Rattle.writing.specs.Writing.{written, wordsOf, Writes}
+use Rattle.writing.specs.Writing.{wordsOf, Writes}
 use Rattle.writing.specs.WritingLaws.{words-are, written-length, writes-start, writes-next, writes-end, writes-place, writes-length, writes-room}
 use Rattle.type_section.specs.TypeParts.{Sound, bodyAt}
 use Rattle.type_section.proofs.Joins.{Put, front-room, put-is, put-room, put-then, frame-both, ready-still}

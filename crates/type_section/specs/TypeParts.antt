@@ -6,7 +6,7 @@ use mathlib.Core.List
 use Rattle.error.specs.declared.LoadErrorKind.{LoadErrorKind}
 use Rattle.reader.specs.Reader.{Reader, encodeList, encodeWords}
 use Rattle.reader.specs.Value.{Whole, valueOf}
-use Rattle.sheet.specs.Module.{ValueType, dyn, Struct, TypeDef, func, struct, cell, iter, coroutine, Module}
+use Rattle.sheet.specs.Module.{dyn, Struct, TypeDef, func, struct, cell, iter, coroutine, Module}
 use Rattle.sheet.specs.Decode.{valueType, structType, typeDef}
 use Rattle.sheet.specs.Encode.{encodePair}
 use Rattle.canon.specs.Canon.{canonWord}
