@@ -1,5 +1,5 @@
 -- The two sections of globals, as lists of value types are written.
-use Prim.Native.Nat.{ℕ, zero, suc, _+_, _*_, _≤_, _<_, min}
+use Prim.Native.Nat.{ℕ, suc, _+_, _≤_, _<_, min}
 use mathlib.Core.Path.{_≡_, refl, sym, ap, ap₂, _∙_}
 use mathlib.Core.List.{List, [], _∷_}
 use mathlib.Core.List
@@ -13,13 +13,13 @@ use Rattle.faults.specs.Empty.{map-empty}
 use Rattle.reader.specs.Reader.{listOf, encodeWords}
 use Rattle.reader.specs.Value.{Whole, valueOf}
 use Rattle.reader.specs.ValueLaws.{got-whole, value-got, list-within}
-use Rattle.sheet.specs.Module.{ValueType, isReference, Global}
+use Rattle.sheet.specs.Module.{isReference, Global}
 use Rattle.sheet.specs.Decode.{globalOf}
 use Rattle.canon.specs.Canon.{canonWord}
 use Rattle.imports.specs.Imports.{globalFaults, globalsFaults}
 use Rattle.layout.specs.Opened.{moduleIn}
 use Rattle.opening.specs.declared.Opened.{Opened}
-use Rattle.opening.specs.Ready.{Opens, Ready}
+use Rattle.opening.specs.Ready.{Opens}
 use Rattle.opening.specs.ReadyLaws.{count-globals}
 use Rattle.table.specs.Records.{references}
 use Rattle.table.specs.Table.{globalSection, referenceSection}

@@ -4,12 +4,12 @@ use mathlib.Core.Path.{_≡_, refl, sym, ap, ap₂, subst, _∙_}
 use mathlib.Core.List.{List, [], _∷_, _++_, append-assoc}
 use mathlib.Core.List
 use native.Mathlib.Omega.{arith}
-use lib.ListN.{length, getD, take, length-map, length-append}
+use lib.ListN.{length, getD, take, length-map}
 use Rattle.lists.specs.Lists.{concatMap}
 use Rattle.lists.specs.ListLaws.{length-concatMap}
 use Rattle.blocks.specs.Blocks.{words}
 use Rattle.blocks.specs.Frame.{firstWords}
-use Rattle.blocks.specs.FirstWords.{length-firstWords, firstWords-at}
+use Rattle.blocks.specs.FirstWords.{firstWords-at}
 use Rattle.error.specs.declared.LoadErrorKind.{LoadErrorKind}
 use Rattle.faults.specs.Empty.{append-empty}
 use Rattle.reader.specs.Reader.{got, word, listOf, encodeList, encodeWords}
@@ -17,7 +17,7 @@ use Rattle.reader.specs.ReaderLaws.{Stands, stands-at, then-inv, word-codes, li
 use Rattle.reader.specs.StepLaws.{word-read}
 use Rattle.reader.specs.Value.{Whole, valueOf}
 use Rattle.reader.specs.ValueLaws.{whole-inv, got-whole, value-got, list-within}
-use Rattle.sheet.specs.Module.{Field, Method, Struct, struct, coroutine, Module}
+use Rattle.sheet.specs.Module.{Field, Struct, struct, coroutine, Module}
 use Rattle.sheet.specs.Decode.{fieldOf, methodOf, structType}
 use Rattle.sheet.specs.Encode.{encodeValue, encodeField, encodePair}
 use Rattle.sheet.specs.Coded.{codedField}
@@ -29,7 +29,7 @@ use Rattle.table.specs.Records.{lastSlot, references, canonWords, fieldNames, m
 use Rattle.value_lists.specs.Values.{valuesAt, Values, Present}
 use Rattle.value_lists.specs.ValuesLaws.{values-length, values-present, values-fields, fields-values}
 use Rattle.name_lists.specs.Names.{namedFields, fieldList, methodList, nameFaults, methodsFaults, field-names, method-names}
-use Rattle.type_section.specs.Sections.{Sound, structIn, structAt, fieldWords, nameWords}
+use Rattle.type_section.specs.TypeParts.{Sound, structIn, structAt, fieldWords, nameWords}
 use Rattle.type_section.proofs.Joins.{Put, front-room, put-is, put-room, put-then}
 
 -- ── where its parts stand ──

@@ -1,6 +1,6 @@
 -- Types by number, one record after the other.
 use Prim.Native.Nat.{ℕ, _+_, _*_, _≤_, _<_}
-use mathlib.Core.Path.{_≡_, refl, sym, ap, ap₂, _∙_}
+use mathlib.Core.Path.{_≡_, ap, ap₂, _∙_}
 use mathlib.Core.List.{List, [], _∷_, _++_}
 use native.Mathlib.Omega.{arith}
 use lib.ListN.{length, getD}
@@ -9,6 +9,7 @@ use Rattle.blocks.specs.Blocks.{words}
 use Rattle.blocks.specs.Frame.{firstWords}
 use Rattle.error.specs.Answer.{inModule}
 use Rattle.faults.specs.Empty.{map-empty, every}
+use Rattle.reader.specs.Reader.{encodeList}
 use Rattle.reader.specs.Value.{valueOf}
 use Rattle.sheet.specs.Module.{coroutine, typeAt}
 use Rattle.sheet.specs.Decode.{typeDef}
@@ -20,9 +21,9 @@ use Rattle.opening.specs.declared.Opened.{Opened}
 use Rattle.opening.specs.Ready.{Ready, posAt}
 use Rattle.opening.specs.ReadyLaws.{count-types, types-in, entry-room, entry-whole, entry-value}
 use Rattle.table.specs.Records.{typeBody, typeRecord}
-use Rattle.writing.specs.Writing.{written, wordsOf, Writes}
+use Rattle.writing.specs.Writing.{wordsOf, Writes}
 use Rattle.writing.specs.WritingLaws.{words-are, written-length, writes-start, writes-next, writes-end, writes-place, writes-length, writes-room}
-use Rattle.type_section.specs.Sections.{Sound, bodyAt, typeSection}
+use Rattle.type_section.specs.TypeParts.{Sound, bodyAt}
 use Rattle.type_section.proofs.Joins.{Put, front-room, put-is, put-room, put-then, frame-both, ready-still}
 use Rattle.type_section.proofs.KindSteps.{type-kind}
 
@@ -92,9 +93,8 @@ types-start ws w o u s = record {
 pub types-ready : (ws w : List ℕ) (o : Opened) → Ready ws w o → (u : List ℕ) (s i : ℕ) (w' v : List ℕ) (p : ℕ) → Types ws w o u s i w' v p → Ready ws w' o
 types-ready ws w o x u s i w' v p y = ready-still ws w o x w' (y .frame)
 
-module _ (ws w : List ℕ) (o : Opened) (x : Ready ws w o) (t : List ℕ) (a : ℕ) (h : a + length (typeSection (moduleIn ws)) ≤ length t) where
-  section-is : (o .counts .types ∷ []) ++ wordsOf (typeRecord (moduleIn ws)) (moduleIn ws .types) ≡ typeSection (moduleIn ws)
-  unfolding typeSection
+module _ (ws w : List ℕ) (o : Opened) (x : Ready ws w o) (t : List ℕ) (a : ℕ) (h : a + length (encodeList (typeRecord (moduleIn ws)) (moduleIn ws .types)) ≤ length t) where
+  section-is : (o .counts .types ∷ []) ++ wordsOf (typeRecord (moduleIn ws)) (moduleIn ws .types) ≡ encodeList (typeRecord (moduleIn ws)) (moduleIn ws .types)
   section-is = ap₂ (λ k l. k ∷ l) (count-types ws o (x .opens)) (words-are (typeRecord (moduleIn ws)) (moduleIn ws .types))
 
   section-room : a + length ((o .counts .types ∷ []) ++ wordsOf (typeRecord (moduleIn ws)) (moduleIn ws .types)) ≤ length t
@@ -127,7 +127,7 @@ module _ (ws w : List ℕ) (o : Opened) (x : Ready ws w o) (t : List ℕ) (a : �
           frame = frame-both (o .layout .words) w w' w'' (y .frame) k;
         }
 
-      pub types-put : o .counts .types ≤ i → Put t a (typeSection (moduleIn ws)) v p
+      pub types-put : o .counts .types ≤ i → Put t a (encodeList (typeRecord (moduleIn ws)) (moduleIn ws .types)) v p
       types-put l =
           let z : i ≡ length (moduleIn ws .types) = omega (arith, y .most, count-types ws o (x .opens)) in
           put-is t a ((o .counts .types ∷ []) ++ wordsOf (typeRecord (moduleIn ws)) (moduleIn ws .types)) v p
@@ -136,4 +136,4 @@ module _ (ws w : List ℕ) (o : Opened) (x : Ready ws w o) (t : List ℕ) (a : �
             done = writes-end (typeRecord (moduleIn ws)) (moduleIn ws .types) u s i v p (y .writes) z;
             next = writes-place (typeRecord (moduleIn ws)) (moduleIn ws .types) u s i v p (y .writes) z;
           }))
-          (typeSection (moduleIn ws)) section-is
+          (encodeList (typeRecord (moduleIn ws)) (moduleIn ws .types)) section-is

@@ -4,6 +4,7 @@ ghost use mathlib.Core.List.{[]};
 ghost use Prim.Native.Nat.{_+_, _*_, _≤_, _<_};
 ghost use lib.ListN.{length};
 ghost use Rattle.blocks.specs.Frame.{firstWords};
+ghost use Rattle.reader.specs.Reader.{encodeList};
 ghost use Rattle.sheet.specs.Module.{dyn, coroutine, typeAt};
 ghost use Rattle.sheet.specs.Decode.{valueType, typeDef};
 ghost use Rattle.types.specs.Types.{valueFaults, typeFaults, typesFaults};
@@ -14,7 +15,7 @@ ghost use Rattle.opening.specs.Ready.{Opens, Ready};
 ghost use Rattle.table.specs.Records.{typeRecord};
 ghost use Rattle.table.specs.Table.{globalSection, referenceSection};
 ghost use Rattle.writing.specs.Writing.{written};
-ghost use Rattle.type_section.specs.Sections.{Sound, oneAt, twoAt, bodyAt, typeSection};
+ghost use Rattle.type_section.specs.TypeParts.{Sound, oneAt, twoAt, bodyAt};
 use crate::structs::write_struct;
 use blocks::word;
 use error::TypeId;
@@ -105,9 +106,9 @@ fn write_type(
 pub fn write_types(sheet: &[u8], work: &mut [u32], o: Opened, table: &mut [u32], at: usize) -> usize
     requires { ⌜ Ready (firstWords (now sheet) (o .layout .words)) (now work) o ⌝ }
     requires { ⌜ typesFaults (moduleIn (firstWords (now sheet) (o .layout .words))) ≡ [] ⌝ }
-    requires { ⌜ at + length (typeSection (moduleIn (firstWords (now sheet) (o .layout .words)))) ≤ length (now table) ⌝ }
-    ensures { λ r. ⌜ now (table .exit) ≡ written (now (table .entry)) at (typeSection (moduleIn (firstWords (now (sheet .entry)) (o .layout .words)))) ⌝ }
-    ensures { λ r. ⌜ r ≡ at + length (typeSection (moduleIn (firstWords (now (sheet .entry)) (o .layout .words)))) ⌝ }
+    requires { ⌜ at + length (encodeList (typeRecord (moduleIn (firstWords (now sheet) (o .layout .words)))) (moduleIn (firstWords (now sheet) (o .layout .words)) .types)) ≤ length (now table) ⌝ }
+    ensures { λ r. ⌜ now (table .exit) ≡ written (now (table .entry)) at (encodeList (typeRecord (moduleIn (firstWords (now (sheet .entry)) (o .layout .words)))) (moduleIn (firstWords (now (sheet .entry)) (o .layout .words)) .types)) ⌝ }
+    ensures { λ r. ⌜ r ≡ at + length (encodeList (typeRecord (moduleIn (firstWords (now (sheet .entry)) (o .layout .words)))) (moduleIn (firstWords (now (sheet .entry)) (o .layout .words)) .types)) ⌝ }
     ensures { λ r. ⌜ Frame (λ k. k < 6 * o .layout .words) (now (work .entry)) (now (work .exit)) ⌝ }
 {
     let mut p = push(table, at, o.counts.types);

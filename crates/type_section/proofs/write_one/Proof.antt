@@ -1,6 +1,5 @@
 -- `type_section::write_one` meets its contract.
 use borrow.Author.Needs.{needs}
-use native.Mathlib.Omega.{arith}
 use Rattle.type_section.proofs.Joins.{put-one}
 use Rattle.type_section.proofs.KindSteps.{one-room, one-put}
 use Rattle.type_section.proofs.write_one.Statement.{statement}

@@ -1,6 +1,5 @@
 -- `type_section::write_type` meets its contract.
 use borrow.Author.Needs.{needs}
-use native.Mathlib.Omega.{arith}
 use Rattle.type_section.proofs.Joins.{put, put-one}
 use Rattle.type_section.proofs.TypeSteps.{type-room, type-sound, kind-room, body-room, type-put}
 use Rattle.type_section.proofs.write_type.Statement.{statement}

@@ -1,6 +1,5 @@
 -- `type_section::write_types` meets its contract.
 use borrow.Author.Needs.{needs}
-use native.Mathlib.Omega.{arith}
 use Prim.Native.Nat.{_-_}
 use Rattle.blocks.specs.Frame.{firstWords}
 use Rattle.type_section.proofs.Joins.{put, put-one}

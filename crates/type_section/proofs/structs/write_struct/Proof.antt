@@ -1,6 +1,5 @@
 -- `type_section::structs::write_struct` meets its contract.
 use borrow.Author.Needs.{needs}
-use native.Mathlib.Omega.{arith}
 use Rattle.type_section.proofs.Joins.{put}
 use Rattle.type_section.proofs.StructSteps.{fields-room, names-room, struct-put}
 use Rattle.type_section.proofs.structs.write_struct.Statement.{statement}

@@ -1,25 +1,17 @@
--- The section of types and its parts, and what is asked of what stands at a position.
+-- Parts of the records of types by position, and what is asked of what stands there.
 use Prim.Native.Nat.{ℕ, _+_, min}
-use mathlib.Core.Path.{_≡_, refl}
+use mathlib.Core.Path.{_≡_}
 use mathlib.Core.List.{List, [], _∷_, _++_}
 use mathlib.Core.List
 use Rattle.error.specs.declared.LoadErrorKind.{LoadErrorKind}
 use Rattle.reader.specs.Reader.{Reader, encodeList, encodeWords}
 use Rattle.reader.specs.Value.{Whole, valueOf}
-use Rattle.sheet.specs.Module.{ValueType, dyn, Struct, TypeDef, func, struct, cell, iter, coroutine, Module}
+use Rattle.sheet.specs.Module.{dyn, Struct, TypeDef, func, struct, cell, iter, coroutine, Module}
 use Rattle.sheet.specs.Decode.{valueType, structType, typeDef}
 use Rattle.sheet.specs.Encode.{encodePair}
 use Rattle.canon.specs.Canon.{canonWord}
 use Rattle.layout.specs.Opened.{moduleIn}
-use Rattle.table.specs.Records.{lastSlot, references, canonWords, fieldNames, methodNames, typeBody, typeRecord}
-
--- the types' section of the linked table
-unfoldable pub typeSection : Module → List ℕ
-typeSection m = encodeList (typeRecord m) (m .types)
-
-pub type-section : (m : Module) → typeSection m ≡ encodeList (typeRecord m) (m .types)
-unfolding typeSection
-type-section m = refl
+use Rattle.table.specs.Records.{lastSlot, references, canonWords, fieldNames, methodNames, typeBody}
 
 -- what stands at a position was read, and breaks no rule
 pub record Sound {A : Type 0} (f : Reader A) (d : A) (faults : Module → A → List LoadErrorKind) (ws : List ℕ) (at : ℕ) : Type 0 where
