@@ -11,8 +11,7 @@ use Rattle.types.specs.Types.{typesFaults}
 use Rattle.parents.specs.Parents.{mostOnChain, parentsFaults}
 use Rattle.imports.specs.Imports.{globalsFaults}
 use Rattle.funcs.specs.Funcs.{funcsFaults}
-use Rattle.type_section.specs.Sections as types
-use Rattle.table.specs.Records.{funcRecord}
+use Rattle.table.specs.Records.{typeRecord, funcRecord}
 use Rattle.table.specs.Table.{joined, hookSection, canonSection, globalSection, referenceSection, spanSection}
 use Rattle.opening.specs.declared.Opened.{Opened}
 use Rattle.link.specs.declared.Front.{Front}
@@ -33,7 +32,7 @@ module _ (ws : List ℕ) where
   funcSection = encodeList (funcRecord (moduleIn ws)) (moduleIn ws .funcs)
 
   abbrev pub typeSection : List ℕ
-  typeSection = types.typeSection (moduleIn ws)
+  typeSection = encodeList (typeRecord (moduleIn ws)) (moduleIn ws .types)
 
   -- functions, types, imports with their places in w, hooks
   unfoldable pub frontWords : List ℕ → Opened → List ℕ

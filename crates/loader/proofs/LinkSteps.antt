@@ -34,7 +34,6 @@ use Rattle.opening.specs.Ready.{Ready}
 use Rattle.import_rules.specs.Links.{LinkedIf}
 use Rattle.plain_sections.specs.Sections.{linkedImports}
 use Rattle.plain_sections.specs.SectionLaws.{linked-section, sigs-inside, bindings-fit}
-use Rattle.type_section.specs.Sections as types
 use Rattle.link.specs.Parts.{Clear, funcSection, typeSection, tableBy}
 use Rattle.loader.specs.Linking.{Fits, answered, tableLeft}
 
@@ -119,7 +118,7 @@ module _ (ws v : List ℕ) (o : Opened) (hosts : List HostFn) {j : Judged} (pass
 
   -- with the places in work the table is the definition's
   table-is : tableBy ws v o ≡ tableWords mostOnChain hosts (moduleIn ws)
-  unfolding tableBy tableWords sections types.typeSection
+  unfolding tableBy tableWords sections
   table-is =
       ap
       (λ (i : List ℕ).

@@ -1,10 +1,7 @@
+-- `loader::link_module` meets its contract.
 use borrow.Author.Needs.{needs}
 use Rattle.loader.proofs.link_module.Statement.{statement}
 use Rattle.loader.proofs.link_module.Tie as tie
-use Rattle.loader.proofs.link_module.Reads as reads
-use Rattle.loader.proofs.link_module.Lts as lts
-use Rattle.link.proofs.write_table.Reads as write-table-reads
-use Rattle.rules.proofs.check_module.Reads as check-module-reads
 use native.Mathlib.Omega.{arith}
 use Rattle.loader.proofs.LinkSteps.{clear, table-room, table-small, end-small, answer-passed, table-passed, answer-refused, table-refused}
 
@@ -36,7 +33,7 @@ same-length-3 : tie.Need-same-length-3
 same-length-3 c = search needs
 
 returns-2 : tie.Need-returns-2
-returns-2 c = (answer-refused _ _ (c .before .before .before .before .before .check-module .ensures .0) _ (search needs), table-refused _ _ (c .before .before .before .before .before .check-module .ensures .0) (c .before .e .given .0) _ (search needs))
+returns-2 c = (answer-refused _ _ (c .before .before .before .before .before .check-module .ensures .0) _ (search needs), table-refused _ _ (c .before .before .before .before .before .check-module .ensures .0) (c .before .e .given .0 .0) _ (search needs))
 
 pub link-module-spec : {M : Type 1} → statement M
 link-module-spec =

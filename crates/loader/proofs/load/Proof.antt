@@ -1,11 +1,7 @@
+-- `loader::load` meets its contract.
 use borrow.Author.Needs.{needs}
 use Rattle.loader.proofs.load.Statement.{statement}
 use Rattle.loader.proofs.load.Tie as tie
-use Rattle.loader.proofs.load.Reads as reads
-use Rattle.loader.proofs.load.Lts as lts
-use Rattle.inputs.proofs.check_inputs.Reads as check-inputs-reads
-use Rattle.loader.proofs.load_intact.Reads as load-intact-reads
-use Rattle.loader.proofs.refuse.Reads as refuse-reads
 use native.Mathlib.Omega.{arith}
 use Rattle.blocks.specs.ByteLaws.{all-bytes}
 use Rattle.loader.proofs.LoadSteps.{load-asked, refused-answer, refused-table, refused-work, intact-answer, intact-table, intact-work}
@@ -26,7 +22,7 @@ load-intact-requires : tie.Need-load-intact-requires
 load-intact-requires c κs = load-asked _ _ (c .before .before .before .before .before .before .before .before .before .before .args .table .now) _ _ _ (search needs) (c .before .before .before .before .before .check-inputs .ensures) (all-bytes (c .before .before .before .before .before .before .before .before .before .before .args .sheet .now) (λ i. omega (arith, c .before .before .before .before .before .before .before .before .before .shared-slice-known .given i)))
 
 returns : tie.Need-returns
-returns c = (refused-answer _ _ (c .before .before .before .before .before .before .before .before .before .args .table .now) (c .before .before .before .before .before .before .before .before .before .args .work .now) (c .before .before .before .before .check-inputs .ensures) _ (search needs) (c .refuse .ensures), (refused-table _ _ (c .before .before .before .before .before .before .before .before .before .args .table .now) (c .before .before .before .before .before .before .before .before .before .args .work .now) (c .before .before .before .before .check-inputs .ensures) (c .before .before .k .given .0) (search needs), refused-work _ _ (c .before .before .before .before .before .before .before .before .before .args .table .now) (c .before .before .before .before .before .before .before .before .before .args .work .now) (c .before .before .before .before .check-inputs .ensures) (c .before .before .k .given .0) (search needs)))
+returns c = (refused-answer _ _ (c .before .before .before .before .before .before .before .before .before .args .table .now) (c .before .before .before .before .before .before .before .before .before .args .work .now) (c .before .before .before .before .check-inputs .ensures) (c .before .before .k .given .0 .0) (search needs) (c .refuse .ensures), (refused-table _ _ (c .before .before .before .before .before .before .before .before .before .args .table .now) (c .before .before .before .before .before .before .before .before .before .args .work .now) (c .before .before .before .before .check-inputs .ensures) (c .before .before .k .given .0 .0) (search needs), refused-work _ _ (c .before .before .before .before .before .before .before .before .before .args .table .now) (c .before .before .before .before .before .before .before .before .before .args .work .now) (c .before .before .before .before .check-inputs .ensures) (c .before .before .k .given .0 .0) (search needs)))
 
 same-length : tie.Need-same-length
 same-length c = search needs
@@ -35,7 +31,7 @@ same-length-2 : tie.Need-same-length-2
 same-length-2 c = search needs
 
 returns-2 : tie.Need-returns-2
-returns-2 c = (intact-answer _ _ (c .before .before .before .before .before .before .before .before .before .before .before .before .before .before .before .args .table .now) (c .before .before .before .before .before .before .before .before .before .before .before .before .before .before .before .args .work .now) (c .before .before .before .before .before .before .before .before .before .before .check-inputs .ensures) _ _ (search needs) (c .before .before .before .before .load-intact .ensures .0), (intact-table _ _ (c .before .before .before .before .before .before .before .before .before .before .before .before .before .before .before .args .table .now) (c .before .before .before .before .before .before .before .before .before .before .before .before .before .before .before .args .work .now) (c .before .before .before .before .before .before .before .before .before .before .check-inputs .ensures) _ _ (search needs) (c .before .before .before .before .load-intact .ensures .1 .0), intact-work _ _ (c .before .before .before .before .before .before .before .before .before .before .before .before .before .before .before .args .table .now) (c .before .before .before .before .before .before .before .before .before .before .before .before .before .before .before .args .work .now) (c .before .before .before .before .before .before .before .before .before .before .check-inputs .ensures) _ _ (search needs) (c .before .before .before .before .load-intact .ensures .1 .1)))
+returns-2 c = (intact-answer _ _ (c .before .before .before .before .before .before .before .before .before .before .before .before .before .before .before .args .table .now) (c .before .before .before .before .before .before .before .before .before .before .before .before .before .before .before .args .work .now) (c .before .before .before .before .before .before .before .before .before .before .check-inputs .ensures) (c .before .before .before .before .before .before .before .before .l .given .0 .0) (c .before .before .before .before .before .before .before .before .l .given .0 .1 .0) (search needs) (c .before .before .before .before .load-intact .ensures .0), (intact-table _ _ (c .before .before .before .before .before .before .before .before .before .before .before .before .before .before .before .args .table .now) (c .before .before .before .before .before .before .before .before .before .before .before .before .before .before .before .args .work .now) (c .before .before .before .before .before .before .before .before .before .before .check-inputs .ensures) (c .before .before .before .before .before .before .before .before .l .given .0 .0) (c .before .before .before .before .before .before .before .before .l .given .0 .1 .0) (search needs) (c .before .before .before .before .load-intact .ensures .1 .0), intact-work _ _ (c .before .before .before .before .before .before .before .before .before .before .before .before .before .before .before .args .table .now) (c .before .before .before .before .before .before .before .before .before .before .before .before .before .before .before .args .work .now) (c .before .before .before .before .before .before .before .before .before .before .check-inputs .ensures) (c .before .before .before .before .before .before .before .before .l .given .0 .0) (c .before .before .before .before .before .before .before .before .l .given .0 .1 .0) (search needs) (c .before .before .before .before .load-intact .ensures .1 .1)))
 
 pub load-spec : {M : Type 1} → statement M
 load-spec =

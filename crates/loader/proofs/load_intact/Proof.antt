@@ -1,11 +1,7 @@
+-- `loader::load_intact` meets its contract.
 use borrow.Author.Needs.{needs}
 use Rattle.loader.proofs.load_intact.Statement.{statement}
 use Rattle.loader.proofs.load_intact.Tie as tie
-use Rattle.loader.proofs.load_intact.Reads as reads
-use Rattle.loader.proofs.load_intact.Lts as lts
-use Rattle.loader.proofs.link_module.Reads as link-module-reads
-use Rattle.opening.proofs.open_sheet.Reads as open-sheet-reads
-use Rattle.region.proofs.fill.Reads as fill-reads
 use native.Mathlib.Omega.{arith}
 use Rattle.rules.specs.OpenedLaws.{opened-ready, opened-few, filled-zero}
 use Rattle.loader.proofs.LoadSteps.{opened-fits, opened-answer, opened-table}
