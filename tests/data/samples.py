@@ -29,16 +29,18 @@ def lifts(last=inst(CODE['ret'], 2)):
                        exports=[(FUNC_ITEM, number('call-out'), 0), (GLOBAL_ITEM, number('night surcharge'), 0)]
                        + [(TYPE_ITEM, number(name), t) for t, (name, _, _) in enumerate(families)]))
 
-def save(path, data):
-    os.makedirs(os.path.dirname(path), exist_ok=True)
-    with open(path, 'wb') as f:
-        f.write(data)
+FILES = {
+    f'{SAMPLES}/hosts': host_list(HOSTS),
+    f'{SAMPLES}/empty.sheet': sheet(parts()),
+    f'{SAMPLES}/lifts.sheet': lifts(),
+    f'{SAMPLES}/self-parent.sheet': sheet(parts(['Lift'], [struct(parent=0)])),
+    f'{CRATES}/checker/stdin': sheet(parts()),
+    f'{CRATES}/checker/data/hosts': host_list([]),
+    f'{CRATES}/checker/stdout': b'0 0 49 0 0 0\n',
+}
 
 if __name__ == '__main__':
-    save(f'{SAMPLES}/hosts', host_list(HOSTS))
-    save(f'{SAMPLES}/empty.sheet', sheet(parts()))
-    save(f'{SAMPLES}/lifts.sheet', lifts())
-    save(f'{SAMPLES}/self-parent.sheet', sheet(parts(['Lift'], [struct(parent=0)])))
-    save(f'{CRATES}/checker/stdin', sheet(parts()))
-    save(f'{CRATES}/checker/data/hosts', host_list([]))
-    save(f'{CRATES}/checker/stdout', b'0 0 49 0 0 0\n')
+    for path, data in FILES.items():
+        os.makedirs(os.path.dirname(path), exist_ok=True)
+        with open(path, 'wb') as f:
+            f.write(data)
