@@ -1,0 +1,1 @@
+// What calls of load and of the family query show, whoever makes them.
