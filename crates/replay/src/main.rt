@@ -1,14 +1,17 @@
-// Replays stored cases (tests/compare/README.md has their format): kinds 1, 23 and 24 by the lengths of the case, and then all rules.
-// Where they refuse, the case's six numbers must be theirs; where they pass, its kind must be 0. No table is written.
+// Replays stored cases (tests/compare/README.md has their format) by `load`, with slices as long as the case says.
+// The six numbers must be the case's, the table's words its words where it is accepted, and every other word of table and work as `load` leaves it.
 // Prints how many cases were replayed, how many differed, and which.
 use error::numbers::SixNumbers;
 use error::numbers::numbers;
-use host::Listed;
-use layout::Checked;
 use libc::STDOUT_FILENO;
-use rules::answer::judge;
+use loader::load;
 
-// Lengths and kind of a stored case.
+// What stands in table and work before: a word that `load` does not write is known by it.
+const TABLE_BEFORE: u32 = 2779096485;
+
+const WORK_BEFORE: u32 = 1515870810;
+
+// Lengths and answer of a stored case.
 struct Case {
     sheet: usize,
     hosts: usize,
@@ -41,32 +44,6 @@ fn padded(n: usize) -> usize {
         return (n + 3) / 4 * 4;
     }
     n
-}
-
-// The kind that the layout of a case gives: 1, 23, 24, or 0 where it passes.
-fn layout_kind(sheet: &[u8], hosts: &[u8], table: usize, work: usize) -> u32 {
-    match layout::check_sheet(sheet) {
-        Checked::Broken => 1,
-        Checked::Intact(l) => {
-            match host::check_hosts(hosts) {
-                Listed::Broken => 23,
-                Listed::Intact(n) => {
-                    if load::is_long_enough(l.words, table, work) {
-                        return 0;
-                    }
-                    24
-                }
-            }
-        }
-    }
-}
-
-// What the layout of a case with this kind must give.
-fn expected(kind: u32) -> u32 {
-    match kind {
-        1 | 23 | 24 => kind,
-        _ => 0,
-    }
 }
 
 fn read_answer(h: &[u8; 44]) -> SixNumbers {
@@ -111,35 +88,166 @@ fn are_same(a: SixNumbers, b: SixNumbers) -> bool {
     a.pc == b.pc
 }
 
-// The rules agree with the answer of a case whose layout passes; an accepted one has a length, which is not compared.
-fn rules_agree(sheet: &[u8], hosts: &[u8], answer: SixNumbers) -> bool {
-    let mut work = [0u32; 65600];
-    let found = numbers(judge(sheet, hosts, &mut work));
-    if found.kind == 0 {
-        return answer.kind == 0;
-    }
-    are_same(found, answer)
-}
-
-fn agrees(sheet: &[u8], hosts: &[u8], table: usize, work: usize, answer: SixNumbers) -> bool {
-    let kind = layout_kind(sheet, hosts, table, work);
-    if kind != expected(answer.kind) {
-        return false;
-    }
-    if kind == 0 {
-        return rules_agree(sheet, hosts, answer);
+// Every word from that place on is x.
+fn is_filled(words: &[u32], from: usize, x: u32) -> bool {
+    let mut end = words.len();
+    while from < end {
+        if words[end - 1] != x {
+            return false;
+        }
+        end -= 1;
     }
     true
 }
 
-fn is_same(sheet: &[u8], n: usize, hosts: &[u8], m: usize, c: Case) -> bool {
-    if n <= sheet.len() {
-        if m <= hosts.len() {
-            let answer = c.answer;
-            return agrees(&sheet[..n], &hosts[..m], c.table, c.work, answer);
+// Word i is the one that is stored.
+fn is_stored(words: &[u32], linked: &[u8], i: usize) -> bool {
+    if 65536 <= i {
+        return false;
+    }
+    if words.len() <= i {
+        return false;
+    }
+    if linked.len() < 4 * i + 4 {
+        return false;
+    }
+    words[i]
+        == le(
+            linked[4 * i],
+            linked[4 * i + 1],
+            linked[4 * i + 2],
+            linked[4 * i + 3],
+        )
+}
+
+// The first n words are the stored ones.
+fn are_stored(words: &[u32], linked: &[u8], n: usize) -> bool {
+    let mut left = n;
+    while 0 < left {
+        if !is_stored(words, linked, n - left) {
+            return false;
         }
+        left -= 1;
+    }
+    true
+}
+
+// How many words of the table an answer says are written.
+fn table_words(answer: SixNumbers) -> usize {
+    if answer.kind == 0 {
+        return answer.number as usize;
+    }
+    0
+}
+
+fn is_table(table: &[u32], linked: &[u8], n: usize) -> bool {
+    if are_stored(table, linked, n) {
+        return is_filled(table, n, TABLE_BEFORE);
     }
     false
+}
+
+// Work is as before where no rule was tried, and zero after the rules.
+fn is_work(work: &[u32], kind: u32) -> bool {
+    match kind {
+        1 | 23 | 24 => is_filled(work, 0, WORK_BEFORE),
+        _ => is_filled(work, 0, 0),
+    }
+}
+
+fn is_left(table: &[u32], work: &[u32], linked: &[u8], c: Case) -> bool {
+    let answer = c.answer;
+    if table_words(answer) != c.linked {
+        return false;
+    }
+    if is_table(table, linked, c.linked) {
+        return is_work(work, answer.kind);
+    }
+    false
+}
+
+fn is_loaded(
+    sheet: &[u8],
+    hosts: &[u8],
+    linked: &[u8],
+    table: &mut [u32],
+    work: &mut [u32],
+    c: Case,
+) -> bool {
+    let found = numbers(load(sheet, hosts, table, work));
+    let answer = c.answer;
+    if are_same(found, answer) {
+        return is_left(table, work, linked, c);
+    }
+    false
+}
+
+// Each slice is as long as the case says.
+fn is_loaded_in_work(
+    sheet: &[u8],
+    hosts: &[u8],
+    linked: &[u8],
+    table: &mut [u32],
+    work: &mut [u32],
+    c: Case,
+) -> bool {
+    let n = c.work;
+    if n <= work.len() {
+        return is_loaded(sheet, hosts, linked, table, &mut work[..n], c);
+    }
+    false
+}
+
+fn is_loaded_in_table(
+    sheet: &[u8],
+    hosts: &[u8],
+    linked: &[u8],
+    table: &mut [u32],
+    work: &mut [u32],
+    c: Case,
+) -> bool {
+    let n = c.table;
+    if n <= table.len() {
+        return is_loaded_in_work(sheet, hosts, linked, &mut table[..n], work, c);
+    }
+    false
+}
+
+fn is_loaded_of_hosts(
+    sheet: &[u8],
+    hosts: &[u8],
+    linked: &[u8],
+    table: &mut [u32],
+    work: &mut [u32],
+    c: Case,
+) -> bool {
+    let n = c.hosts;
+    if n <= hosts.len() {
+        return is_loaded_in_table(sheet, &hosts[..n], linked, table, work, c);
+    }
+    false
+}
+
+fn is_same(
+    sheet: &[u8],
+    hosts: &[u8],
+    linked: &[u8],
+    table: &mut [u32],
+    work: &mut [u32],
+    c: Case,
+) -> bool {
+    let n = c.sheet;
+    if n <= sheet.len() {
+        return is_loaded_of_hosts(&sheet[..n], hosts, linked, table, work, c);
+    }
+    false
+}
+
+// 64 blocks hold 8,128 words, for which 65,088 words are enough; stored cases have up to 100 more.
+fn is_same_in(sheet: &[u8; 65536], hosts: &[u8; 65536], linked: &[u8; 262144], c: Case) -> bool {
+    let mut table = [TABLE_BEFORE; 65600];
+    let mut work = [WORK_BEFORE; 65600];
+    is_same(sheet, hosts, linked, &mut table, &mut work, c)
 }
 
 // A case whose lengths are known; its bytes and its table come next.
@@ -159,7 +267,7 @@ fn replay_case(fd: i32, c: Case) -> Replayed {
     if !read_part(fd, &mut linked, 4 * c.linked) {
         return Replayed::Missing;
     }
-    if is_same(&sheet, c.sheet, &hosts, c.hosts, c) {
+    if is_same_in(&sheet, &hosts, &linked, c) {
         Replayed::Same
     } else {
         Replayed::Different
