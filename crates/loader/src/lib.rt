@@ -3,8 +3,6 @@ ghost use mathlib.Core.Path.{_≡_};
 ghost use Prim.Native.Nat.{_+_, _*_, _≤_, _<_};
 ghost use lib.ListN.{length};
 ghost use Rattle.blocks.specs.Frame.{firstWords};
-ghost use Rattle.error.specs.declared.Loaded.the-variants.{Refused};
-ghost use Rattle.error.specs.Answer.{inModule, first};
 ghost use Rattle.reader.specs.Reader.{listOf};
 ghost use Rattle.reader.specs.Value.{Whole};
 ghost use Rattle.host.specs.Host.{hostFn};
@@ -16,8 +14,6 @@ ghost use Rattle.load.specs.Load.{load, tableAfter, workAfter};
 ghost use Rattle.rules.specs.Unlinked.{Zeroed};
 ghost use Rattle.loader.specs.Linking.{Fits, answered, tableLeft};
 use error::Judged;
-use error::LoadError;
-use error::LoadErrorKind;
 use error::Loaded;
 use inputs::Inputs;
 use inputs::check_inputs;
@@ -26,6 +22,7 @@ use link::write_table;
 use opening::Opened;
 use opening::open_sheet;
 use region::fill;
+use rules::answer::refuse;
 use rules::check_module;
 
 // The rules, and where they hold the table.
@@ -75,16 +72,6 @@ fn load_intact(
     let a = link_module(sheet, hosts, n, o, table, work);
     fill(work, 0, work.len(), 0);
     a
-}
-
-fn refuse(k: LoadErrorKind) -> Loaded
-    ensures { λ r. ⌜ r ≡ Refused (inModule k) ⌝ }
-{
-    Loaded::Refused(LoadError {
-        kind: k,
-        func: 0,
-        pc: 0,
-    })
 }
 
 // The verdict on any sheet and host list; where it is accepted, the linked table.

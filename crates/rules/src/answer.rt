@@ -35,7 +35,8 @@ fn answer(j: Judged) -> Loaded
     }
 }
 
-fn refuse(k: LoadErrorKind) -> Loaded
+// Refused before any rule: no place.
+pub fn refuse(k: LoadErrorKind) -> Loaded
     ensures { λ r. ⌜ r ≡ Refused (inModule k) ⌝ }
 {
     Loaded::Refused(LoadError {
