@@ -2,15 +2,11 @@
 use mathlib.Core.Path.{_≡_}
 use mathlib.Core.Bool.{Bool}
 use mathlib.Core.List.{List}
-use Prim.Native.Nat.{ℕ, _+_, _≤_, _<_}
+use Prim.Native.Nat.{ℕ, _+_, _≤_}
 use lib.ListN.{length, getD}
 use Rattle.region.specs.Region.{Off, Apart, part}
+use Rattle.sorting.specs.Items.{Rising}
 use Rattle.canonical.specs.Numbers.{items, canonical, ownBy}
-
--- the edges rise, and none is past the words
-pub record Rising (ws S : List ℕ) (n : ℕ) : Type 0 where
-  pub rising : (i : ℕ) → i < n → getD S i 0 ≤ getD S (i + 1) 0
-  pub within : (i : ℕ) → i ≤ n → getD S i 0 ≤ length ws
 
 -- the four regions of the whole
 pub record Regions (ws w : List ℕ) (n s a b c : ℕ) : Type 0 where

@@ -8,7 +8,8 @@ use native.Mathlib.Nat.{zero-add}
 use lib.ListN.{length, getD, length-map}
 use Rattle.lists.specs.Lists.{from, firstAt, same}
 use Rattle.lists.specs.ListLaws.{length-from, getD-map-from, same-eq, same-self}
-use Rattle.canonical.specs.Numbers.{item, items, firstEqual, number, canonical}
+use Rattle.sorting.specs.Items.{item}
+use Rattle.canonical.specs.Numbers.{items, firstEqual, number, canonical}
 
 -- j is the first place of a
 first-is : (a : List ℕ) (l : List (List ℕ)) (j : ℕ) → j < length l → getD l j [] ≡ a → ((k : ℕ) → k < j → getD l k [] ≡ a → ⊥) → firstAt (same a) l ≡ j

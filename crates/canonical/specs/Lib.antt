@@ -1,17 +1,7 @@
 pub mod Numbers
 pub mod Contract
-pub mod Order
-pub mod Lex
 pub mod Least
-pub mod Merge
 pub mod Scan
-pub mod Steps
-pub mod Ranges
-pub mod Edges
-pub mod Pick
-pub mod MergeSteps
-pub mod PassSteps
-pub mod SortSteps
 pub mod ScanSteps
 pub mod Theorems
 pub mod SheetNumbers

@@ -1,15 +1,11 @@
 -- Items and their canonical numbers: what the contract means.
 use mathlib.Core.Bool.{Bool, true, false, cond}
 use mathlib.Core.List.{List, [], _∷_, map}
-use Prim.Native.Nat.{ℕ, _+_}
+use Prim.Native.Nat.{ℕ}
 use lib.Dec.{eqb}
 use lib.ListN.{length, getD}
-use lib.Seq.{slice}
 use Rattle.lists.specs.Lists.{from, firstAt, same}
-
--- item i: the words from edge i to edge i + 1
-unfoldable pub item : List ℕ → List ℕ → ℕ → List ℕ
-item ws edges i = slice (getD edges i 0) (getD edges (i + 1) 0) ws
+use Rattle.sorting.specs.Items.{item}
 
 unfoldable pub items : List ℕ → List ℕ → ℕ → List (List ℕ)
 items ws edges n = map (item ws edges) (from 0 n)

@@ -4,19 +4,14 @@ use mathlib.Core.List.{List}
 use Prim.Native.Nat.{ℕ, _-_, _<_}
 use native.Mathlib.Omega.{arith}
 use native.Mathlib.Decide.{decLt}
-use Rattle.canonical.specs.declared.Ordering.{Ordering}
-use Rattle.canonical.specs.declared.Ordering.the-variants.{Less, Equal, Greater}
-use Rattle.canonical.specs.Numbers.{item}
-use Rattle.canonical.specs.Order.{before, lex}
-use Rattle.canonical.specs.Lex.{before-lower, before-irr, before-between, lex-refl, lex-same}
+use Rattle.sorting.specs.declared.Ordering.{Ordering}
+use Rattle.sorting.specs.declared.Ordering.the-variants.{Less, Equal, Greater}
+use Rattle.sorting.specs.Items.{item}
+use Rattle.sorting.specs.Order.{lex}
+use Rattle.sorting.specs.Lex.{before-lower, before-irr, before-between, lex-refl, lex-same}
+use Rattle.sorting.specs.Merge.{Place}
+use Rattle.sorting.specs.Contract.{Ordered}
 use Rattle.canonical.specs.Least.{First}
-use Rattle.canonical.specs.Merge.{Sorted, Place}
-
--- all numbers below n, in order
-pub record Ordered (ws S : List ℕ) (n : ℕ) (F : ℕ → ℕ) : Type 0 where
-  pub sorted : Sorted (before ws S) F 0 n
-  pub all : (i : ℕ) → i < n → Place F 0 n i
-  pub below : (p : ℕ) → p < n → F p < n
 
 module _ (ws S : List ℕ) (n : ℕ) (F : ℕ → ℕ) (o : Ordered ws S n F) where
   -- a content that the place before does not have

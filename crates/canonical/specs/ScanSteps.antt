@@ -1,4 +1,4 @@
--- The scan in memory, and the whole: what holds at the head of the loop, and each step of it.
+-- The scan in memory, and the whole: what its functions ask and give, what holds at the head of the loop, and each step of it.
 use mathlib.Core.Path.{_≡_, refl, sym, ap, _∙_}
 use mathlib.Core.Bool.{Bool, true, false, cond}
 use mathlib.Core.List.{List}
@@ -8,15 +8,32 @@ use native.Mathlib.Omega.{arith}
 use native.Mathlib.Decide.{decLt, ℕ-discrete}
 use lib.ListN.{length, getD, set}
 use lib.Seq.{getD-set-same, getD-set-other}
-use Rattle.canonical.specs.Numbers.{item, items, canonical, ownBy}
+use Rattle.sorting.specs.Items.{item}
+use Rattle.sorting.specs.Merge.{Place}
+use Rattle.sorting.specs.Contract.{Edges, Ready, Ordered, SortOut}
+use Rattle.sorting.specs.Edges.{ready-kept}
+use Rattle.canonical.specs.Numbers.{items, canonical, ownBy}
 use Rattle.region.specs.Region.{Off, Apart, Frame, part, wordAt}
 use Rattle.region.specs.RegionLaws.{frame-refl, frame-then, frame-set, part-is, part-kept}
 use Rattle.canonical.specs.Least.{First, numbers-length, numbers-at}
-use Rattle.canonical.specs.Merge.{Place}
-use Rattle.canonical.specs.Scan.{Ordered}
-use Rattle.canonical.specs.Steps.{Edges, Ready, HeadIn, ScanIn, ScanOut, SortOut}
 use Rattle.canonical.specs.Contract.{Regions, Numbered}
-use Rattle.canonical.specs.Edges.{ready-kept}
+
+pub record HeadIn (ws w : List ℕ) (n s a p head : ℕ) : Type 0 where
+  pub edges : Edges ws w n s
+  pub a-in : a + n ≤ length w
+  pub ordered : Ordered ws (part s (n + 1) w) n (wordAt w a)
+  pub p-n : p < n
+  pub head-is : 0 < p → First ws (part s (n + 1) w) n (wordAt w a (p - 1)) head
+
+pub record ScanIn (ws w : List ℕ) (n s a c : ℕ) : Type 0 where
+  pub ready : Ready ws w n s a c
+  pub ordered : Ordered ws (part s (n + 1) w) n (wordAt w a)
+  pub small : n ≤ 4294967296
+
+-- the canonical numbers lie at c, and all but c is as it was
+pub record ScanOut (ws w v : List ℕ) (n s c : ℕ) (marked : Bool) : Type 0 where
+  pub frame : Frame (Off c (c + n)) w v
+  pub numbers : part c n v ≡ canonical (ownBy marked) (items ws (part s (n + 1) w) n)
 
 pub record ScanAt (ws w v : List ℕ) (n s a c : ℕ) (marked : Bool) (p head : ℕ) : Type 0 where
   pub frame : Frame (Off c (c + n)) w v

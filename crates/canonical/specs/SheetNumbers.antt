@@ -29,9 +29,9 @@ use Rattle.index.specs.Index.{edgesOf, memberOf}
 use Rattle.index.specs.IndexLaws.{Indexed, list-begins}
 use Rattle.index.specs.SheetIndex.{strings-indexed, types-indexed}
 use Rattle.canon.specs.Canon.{canonString, sameType, canonType}
-use Rattle.canonical.specs.Numbers.{item, items, number, canonical, ownBy}
+use Rattle.sorting.specs.Items.{item, Rising}
+use Rattle.canonical.specs.Numbers.{items, number, canonical, ownBy}
 use Rattle.canonical.specs.Least.{items-length, items-at}
-use Rattle.canonical.specs.Contract.{Rising}
 
 -- ── any part ──
 

@@ -19,8 +19,9 @@ use Rattle.index.specs.SheetIndex.{strings-indexed, types-indexed}
 use Rattle.canon.specs.Canon.{canonString, canonType}
 use Rattle.region.specs.Region.{part}
 use Rattle.region.specs.RegionLaws.{part-at, part-is, part-front, part-after, part-paste}
+use Rattle.sorting.specs.Items.{Rising}
 use Rattle.canonical.specs.Numbers.{items, canonical, ownBy}
-use Rattle.canonical.specs.Contract.{Rising, Regions, Numbered}
+use Rattle.canonical.specs.Contract.{Regions, Numbered}
 use Rattle.canonical.specs.SheetNumbers.{types-numbered, strings-numbered}
 
 -- four regions one after the other meet what the call asks

@@ -9,9 +9,7 @@ use lib.ListN.{length, getD}
 use Rattle.lists.specs.Lists.{from, same}
 use Rattle.lists.specs.ListLaws.{same-eq, same-self}
 use Rattle.lists.specs.FirstLaws.{first-most, first-passes}
-use Rattle.canonical.specs.declared.Ordering.the-variants.{Greater}
 use Rattle.canonical.specs.Numbers.{firstEqual, number, canonical, ownBy}
-use Rattle.canonical.specs.Order.{lex}
 
 -- ── the least number ──
 
@@ -47,9 +45,6 @@ unfolding canonical
 canonical-plain l = refl
 
 -- ── examples ──
-
-ex-lex : lex (1 ∷ 2 ∷ []) (1 ∷ []) ≡ Greater
-ex-lex = refl
 
 ex-items : List (List ℕ)
 ex-items = (7 ∷ 1 ∷ []) ∷ (1 ∷ 5 ∷ []) ∷ (7 ∷ 1 ∷ []) ∷ [] ∷ (1 ∷ 5 ∷ []) ∷ [] ∷ (7 ∷ []) ∷ (7 ∷ 1 ∷ []) ∷ []

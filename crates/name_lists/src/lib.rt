@@ -18,7 +18,7 @@ ghost use Rattle.table.specs.Records.{byName};
 ghost use Rattle.name_lists.specs.Merge.{pairsAt};
 ghost use Rattle.name_lists.specs.Steps.{Paired, Room, Gathered};
 ghost use Rattle.name_lists.specs.Names.{namedFields, slotPairs, methodPairs, fieldList, methodList, pairWords, nameFaults, methodsFaults};
-use crate::sorting::sort_names;
+use crate::pairs::sort_names;
 use blocks::word;
 use error::StrId;
 use opening::Opened;
@@ -27,7 +27,7 @@ use region::least;
 use region::put;
 use writing::push;
 
-pub mod sorting;
+pub mod pairs;
 
 fn push_pair(work: &[u32], a: usize, table: &mut [u32], at: usize) -> usize
     requires { ⌜ (a + 1 < length (now work)) × (at + 1 < length (now table)) ⌝ }

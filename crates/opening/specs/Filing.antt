@@ -26,7 +26,8 @@ use Rattle.index.specs.SheetIndex.{strings-indexed, types-indexed, consts-index
 use Rattle.region.specs.Region.{part, Off, Apart, Frame}
 use Rattle.region.specs.RegionLaws.{part-is}
 use Rattle.canon.specs.Canon.{canonString, canonType}
-use Rattle.canonical.specs.Contract.{Rising, Regions, Numbered}
+use Rattle.sorting.specs.Items.{Rising}
+use Rattle.canonical.specs.Contract.{Regions, Numbered}
 use Rattle.canonical.specs.SheetNumbers.{types-rising, strings-rising}
 use Rattle.canonical.specs.SheetRegions.{type-number, string-number}
 use Rattle.opening.specs.declared.Counts.{Counts}

@@ -11,8 +11,9 @@ use borrow.Author.Needs.{needs}
 use Rattle.region.specs.Region.{part}
 use Rattle.blocks.specs.Frame.{firstWords}
 use Rattle.blocks.specs.FirstWords.{length-firstWords, firstWords-at}
-use Rattle.canonical.specs.Edges.{item-none, item-some, ends}
-use Rattle.canonical.specs.Numbers.{item, ownBy}
+use Rattle.sorting.specs.Items.{item}
+use Rattle.sorting.specs.Edges.{item-none, item-some, ends}
+use Rattle.canonical.specs.Numbers.{ownBy}
 use Rattle.canonical.proofs.is_own.Statement.{statement}
 use Rattle.canonical.proofs.is_own.Tie as tie
 
