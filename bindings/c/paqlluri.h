@@ -4,7 +4,7 @@
  * Link target/staticlib/libpaqlluri.a, which `rt staticlib paqlluri` proves and writes (x86-64, System V ABI).
  * It needs memcpy and memset and nothing else: no heap, no files, no globals. The calls are reentrant, and
  * threads may call them at once on slices of their own, or share a linked table that none of them writes.
- * A call takes at most 96 KiB of stack.
+ * A call takes less than 96 KiB of stack (80 KB were measured, on a chain of 256 types).
  *
  * A slice is a pointer and a count of elements. Any bytes and words may stand in it: nothing need be checked
  * before a call, and every call returns. What is asked of the pointers is what C asks:
@@ -27,7 +27,7 @@ extern "C" {
 #define PAQLLURI_BLOCK_WORDS 127
 #define PAQLLURI_MOST_BLOCKS 4096
 
-/* The blocks of so many bytes; more than there can be count as the most, since such a sheet is refused anyway. */
+/* The blocks of so many bytes, a number that is read twice; more than there can be count as the most, such a sheet being refused anyway. */
 #define PAQLLURI_BLOCKS(bytes)                                                                                         \
     ((size_t)(bytes) / PAQLLURI_BLOCK_BYTES < PAQLLURI_MOST_BLOCKS ? (size_t)(bytes) / PAQLLURI_BLOCK_BYTES            \
                                                                    : (size_t)PAQLLURI_MOST_BLOCKS)

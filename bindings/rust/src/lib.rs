@@ -25,7 +25,7 @@
 //! ```
 //!
 //! The loader itself is not Rust: this crate links `libpaqlluri.a`, which `rt staticlib paqlluri` proves and
-//! writes, and the proofs are about that. There is no heap, no global and no dependency; a call takes at most
+//! writes, and the proofs are about that. There is no heap, no global and no dependency; a call takes less than
 //! 96 KiB of stack, and threads may call at once.
 
 #![no_std]
