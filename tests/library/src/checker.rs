@@ -138,8 +138,11 @@ impl<'l, L: Loader> Checker<'l, L> {
     fn slices(&self, kind: u32, words: &[u32]) -> Result<(), String> {
         let table = self.table.now();
         if !table.starts_with(words) {
-            let place = table.iter().zip(words).position(|(a, b)| a != b);
-            return Err(format!("table word {place:?} differs"));
+            let place = table.iter().zip(words).take_while(|(a, b)| a == b).count();
+            let (found, expected) = (table.get(place), words.get(place));
+            return Err(format!(
+                "table word {place} is {found:?}, the reference's {expected:?}"
+            ));
         }
         if let Some(place) = self.table.changed_from(words.len()) {
             let last = words.len();

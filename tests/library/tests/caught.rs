@@ -91,7 +91,7 @@ fn a_word_of_the_table() {
             table[30] = 0;
         }
     };
-    assert_says(&caught(last), "differs");
+    assert_says(&caught(last), "the reference's");
     for alter in [after, end, refused] {
         assert_says(&caught(alter), "is changed");
     }
@@ -152,7 +152,7 @@ fn cheap_loaders() {
             table[..n[2] as usize].fill(0);
         }
     };
-    assert_says(&caught(writes_nothing), "table word Some(0) differs");
+    assert_says(&caught(writes_nothing), "table word 0 is Some(0)");
 }
 
 #[test]
