@@ -2,12 +2,15 @@
 
 use std::fmt;
 
-use sheets::decode_sheet;
+use sheets::{decode_sheet, Sheet};
 
 use crate::Answer;
 
 /// Kinds that a sheet, a host list or lengths can meet: 0 to 24 (25 is the query's, 26 cannot occur).
 const KINDS: usize = 25;
+
+/// A run of at least so many cases fails if it misses a kind or a word.
+pub const FULL_RUN: u64 = 5000;
 
 /// Hits by kind, by word of kinds 3 and 11, and by operation code in accepted sheets.
 #[derive(Clone, Debug)]
@@ -32,20 +35,24 @@ impl Default for Coverage {
 impl Coverage {
     /// Counts an answer to a sheet.
     pub fn add(&mut self, sheet: &[u8], answer: &Answer) {
-        let [kind, word, ..] = answer.numbers;
+        let sheet = answer.table.as_ref().and_then(|_| decode_sheet(sheet));
+        self.add_numbers(answer.numbers, sheet.as_ref().map(|(sheet, _)| sheet));
+    }
+
+    /// Counts the six numbers, and the codes of the sheet if it is an accepted one.
+    pub fn add_numbers(&mut self, [kind, word, ..]: [u32; 6], accepted: Option<&Sheet>) {
         self.kinds[kind as usize] += 1;
         match kind {
-            0 => self.add_codes(sheet),
             3 => self.out_of_range[word as usize - 1] += 1,
             11 => self.wrong_type_kind[word as usize - 1] += 1,
             _ => {}
         }
+        if let Some(sheet) = accepted {
+            self.add_codes(sheet);
+        }
     }
 
-    fn add_codes(&mut self, sheet: &[u8]) {
-        let Some((sheet, _)) = decode_sheet(sheet) else {
-            return;
-        };
+    fn add_codes(&mut self, sheet: &Sheet) {
         let mut seen = [false; 35];
         for inst in sheet.functions.iter().flat_map(|f| &f.code) {
             seen[usize::from(*inst as u8)] = true;
@@ -53,6 +60,17 @@ impl Coverage {
         for (hits, seen) in self.codes.iter_mut().zip(seen) {
             *hits += u64::from(seen);
         }
+    }
+
+    /// Adds what another run has hit.
+    pub fn merge(&mut self, other: &Coverage) {
+        let both = |to: &mut [u64], from: &[u64]| {
+            to.iter_mut().zip(from).for_each(|(to, from)| *to += from);
+        };
+        both(&mut self.kinds, &other.kinds);
+        both(&mut self.out_of_range, &other.out_of_range);
+        both(&mut self.wrong_type_kind, &other.wrong_type_kind);
+        both(&mut self.codes, &other.codes);
     }
 
     /// What no case has hit, in words.

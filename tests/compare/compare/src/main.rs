@@ -4,7 +4,10 @@ use std::collections::HashMap;
 use std::io::Write;
 use std::process::ExitCode;
 
-use compare::{answer, describe_case, line_of, read_cases, write_cases, Coverage, StoredCase};
+use compare::{
+    answer, describe_case, line_of, read_cases, write_cases, Coverage, Options, StoredCase,
+    FULL_RUN,
+};
 use generator::case;
 use sheets::BLOCK;
 
@@ -16,9 +19,6 @@ const USAGE: &str = "usage:
   compare numbers HOSTS SHEET...
   compare antt [--seed S] [--count N] [--max-words W]
 numbers are decimal; seed 1 by default";
-
-/// A run of at least so many cases fails if it misses a kind or a word.
-const FULL_RUN: u64 = 5000;
 
 fn main() -> ExitCode {
     let args: Vec<String> = std::env::args().skip(1).collect();
@@ -83,31 +83,6 @@ fn run(args: &[String]) -> Option<Result<(), String>> {
             _ => None,
         },
         _ => None,
-    }
-}
-
-/// Options, each with a value, each at most once.
-struct Options(HashMap<String, String>);
-
-impl Options {
-    fn read(args: &[String], names: &[&str]) -> Option<Options> {
-        let mut found = HashMap::new();
-        for pair in args.chunks(2) {
-            let [name, value] = pair else { return None };
-            let known = names.contains(&name.as_str());
-            if !known || found.insert(name.clone(), value.clone()).is_some() {
-                return None;
-            }
-        }
-        Some(Options(found))
-    }
-
-    fn number(&self, name: &str, default: u64) -> Option<u64> {
-        self.0.get(name).map_or(Some(default), |v| v.parse().ok())
-    }
-
-    fn text(&self, name: &str) -> Option<&str> {
-        self.0.get(name).map(String::as_str)
     }
 }
 

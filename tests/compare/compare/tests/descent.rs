@@ -1,21 +1,9 @@
 //! Descent by spans, by the Rust's own test and by declared parents, on generated sheets.
 
 use bvm_lang::{descends, table_words};
-use compare::{descends_by_parents, load, query};
+use compare::{asked_numbers, descends_by_parents, load, query};
 use generator::{case, valid, Draft, Rng, Scale};
 use sheets::{decode_sheet, encode_hosts, encode_sheet, Sheet};
-
-/// Every number of a type, some that are none, and far ones; a sample of them in large sheets.
-fn numbers(rng: &mut Rng, types: usize) -> Vec<u32> {
-    let mut numbers: Vec<u32> = if types <= 24 {
-        (0..types as u32).collect()
-    } else {
-        (0..24).map(|_| rng.index(types)).collect()
-    };
-    let n = types as u32;
-    numbers.extend([n, n + 1, 1 << 31, u32::MAX - 1, u32::MAX]);
-    numbers
-}
 
 /// Compares the three tests for all pairs of numbers; false when the sheet is refused.
 fn agree(rng: &mut Rng, sheet: &Sheet, bytes: &[u8], hosts: &[u8]) -> bool {
@@ -23,7 +11,7 @@ fn agree(rng: &mut Rng, sheet: &Sheet, bytes: &[u8], hosts: &[u8]) -> bool {
         return false;
     };
     let table = table_words(&program, &host);
-    let numbers = numbers(rng, sheet.types.len());
+    let numbers = asked_numbers(rng, sheet.types.len(), 24);
     for &t in &numbers {
         for &a in &numbers {
             let declared = descends_by_parents(sheet, t, a);

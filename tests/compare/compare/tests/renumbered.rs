@@ -1,6 +1,6 @@
 //! Renumbered pairs as demand 3 says.
 
-use compare::{answer_plain, image, query, Linked};
+use compare::{answer_plain, asked_numbers, pair_difference, query};
 use generator::{pair, Pair, Rng};
 use sheets::{encode_sheet, renumber};
 
@@ -20,35 +20,9 @@ fn compare_pair(pair: &Pair, index: u64) -> (u32, u32) {
 }
 
 fn compare_tables(pair: &Pair, a: &[u32], b: &[u32], index: u64) {
-    assert_eq!(a.len(), b.len(), "pair {index}: L");
-    let types = pair.images.len();
-    let mut rng = Rng::new(7, index);
-    let mut numbers: Vec<u32> = if types <= 20 {
-        (0..types as u32).collect()
-    } else {
-        (0..20).map(|_| rng.index(types)).collect()
-    };
-    numbers.extend([types as u32, types as u32 + 1, u32::MAX]);
-    let (first, second) = (
-        Linked::read(a).expect("a table"),
-        Linked::read(b).expect("a table"),
-    );
-    for &t in &numbers {
-        let t_image = image(&pair.images, t);
-        for &u in &numbers {
-            let u_image = image(&pair.images, u);
-            let descent = (query(a, t, u), query(b, t_image, u_image));
-            assert_eq!(descent.0, descent.1, "pair {index}: {t} from {u}");
-            let canonical = |l: &Linked, t: u32| l.canonical.get(t as usize).copied();
-            if (t.max(u) as usize) < types {
-                let same = canonical(&first, t) == canonical(&first, u);
-                let images = canonical(&second, t_image) == canonical(&second, u_image);
-                assert_eq!(same, images, "pair {index}: canonical {t} and {u}");
-            }
-        }
-    }
-    assert_eq!(first.hooks, second.hooks, "pair {index}: hooks");
-    assert_eq!(first.catch_tables, second.catch_tables, "pair {index}");
+    let asked = asked_numbers(&mut Rng::new(7, index), pair.images.len(), 20);
+    let found = pair_difference(&pair.images, &asked, [a, b], query);
+    assert_eq!(found, None, "pair {index}");
 }
 
 #[test]

@@ -1,0 +1,101 @@
+/*
+ * Loads a sheet under a host list, prints the six numbers, then says of each pair of types whether one
+ * descends from the other.
+ *
+ *     example SHEET HOSTS [T A]...
+ *
+ * Exit status: 0 accepted, 1 refused, 2 not tried.
+ */
+#include <errno.h>
+#include <stdio.h>
+#include <stdlib.h>
+#include <string.h>
+
+#include "paqlluri.h"
+
+/* One byte more than a sheet can have shows that there are more; such a file is refused like any broken one. */
+#define MOST_BYTES ((size_t)PAQLLURI_BLOCK_BYTES * PAQLLURI_MOST_BLOCKS + 1)
+
+struct bytes {
+    uint8_t *data;
+    size_t length;
+};
+
+static int stop(const char *name, const char *why) {
+    fprintf(stderr, "example: %s: %s\n", name, why);
+    return 2;
+}
+
+/* Reads a file whole; data is null where that fails. */
+static struct bytes read_file(const char *name) {
+    struct bytes bytes = {NULL, 0};
+    FILE *file = fopen(name, "rb");
+    if (file == NULL)
+        return bytes;
+    bytes.data = (uint8_t *)malloc(MOST_BYTES);
+    if (bytes.data != NULL)
+        bytes.length = fread(bytes.data, 1, MOST_BYTES, file);
+    if (ferror(file)) {
+        free(bytes.data);
+        bytes.data = NULL;
+    }
+    fclose(file);
+    return bytes;
+}
+
+/* A type number; digits that are too many for one name no type. */
+static uint32_t type_number(const char *digits) {
+    unsigned long number = strtoul(digits, NULL, 10);
+    return number < UINT32_MAX ? (uint32_t)number : UINT32_MAX;
+}
+
+static void print_families(const uint32_t *table, size_t words, int pairs, char **numbers) {
+    int k;
+    for (k = 0; k < pairs; k++) {
+        const char *t = numbers[2 * k], *a = numbers[2 * k + 1];
+        int yes = paqlluri_descends(table, words, type_number(t), type_number(a)) == 1;
+        printf("%s descends from %s: %s\n", t, a, yes ? "yes" : "no");
+    }
+}
+
+static int load(struct bytes sheet, struct bytes hosts, int pairs, char **numbers) {
+    uint32_t answer[PAQLLURI_NUMBERS];
+    size_t words = PAQLLURI_WORDS(sheet.length);
+    uint32_t *table = (uint32_t *)calloc(words, sizeof *table);
+    uint32_t *work = (uint32_t *)calloc(words, sizeof *work);
+    if (table == NULL || work == NULL) {
+        free(table);
+        free(work);
+        return stop("table and work", strerror(ENOMEM));
+    }
+    paqlluri_load(sheet.data, sheet.length, hosts.data, hosts.length, table, words, work, words, answer);
+    free(work);
+    printf("%lu %lu %lu %lu %lu %lu\n", (unsigned long)answer[PAQLLURI_KIND], (unsigned long)answer[PAQLLURI_WORD],
+           (unsigned long)answer[PAQLLURI_NUMBER], (unsigned long)answer[PAQLLURI_SECOND],
+           (unsigned long)answer[PAQLLURI_FUNCTION], (unsigned long)answer[PAQLLURI_POSITION]);
+    if (answer[PAQLLURI_KIND] == PAQLLURI_ACCEPTED)
+        print_families(table, answer[PAQLLURI_NUMBER], pairs, numbers);
+    free(table);
+    return answer[PAQLLURI_KIND] == PAQLLURI_ACCEPTED ? 0 : 1;
+}
+
+int main(int argc, char **argv) {
+    struct bytes sheet, hosts;
+    int status;
+    if (argc < 3 || argc % 2 == 0) {
+        fprintf(stderr, "usage: example SHEET HOSTS [T A]...\n");
+        return 2;
+    }
+    sheet = read_file(argv[1]);
+    if (sheet.data == NULL)
+        return stop(argv[1], strerror(errno));
+    hosts = read_file(argv[2]);
+    if (hosts.data == NULL) {
+        free(sheet.data);
+        return stop(argv[2], strerror(errno));
+    }
+    status = load(sheet, hosts, (argc - 3) / 2, argv + 3);
+    free(sheet.data);
+    free(hosts.data);
+    return status;
+}

@@ -1,0 +1,166 @@
+//! A loader for bytecode modules of tariffs, proved for all inputs.
+//!
+//! [`load`] takes the bytes of a sheet and of a host list, which nobody need check first, and either
+//! refuses the sheet ([`LoadError`]) or writes its linked table into lent words ([`Linked`]).
+//! [`Linked::descends`] then says which type belongs to which family.
+//!
+//! ```
+//! use paqlluri::{load, table_words, work_words, TypeId};
+//! # const SAMPLES: (&[u8], &[u8]) = (
+//! #     include_bytes!(concat!(env!("CARGO_MANIFEST_DIR"), "/../../samples/lifts.sheet")),
+//! #     include_bytes!(concat!(env!("CARGO_MANIFEST_DIR"), "/../../samples/hosts")),
+//! # );
+//! # fn main() -> Result<(), paqlluri::LoadError> {
+//! # let (sheet, hosts) = SAMPLES;
+//!
+//! let mut table = vec![0; table_words(sheet.len())];
+//! let mut work = vec![0; work_words(sheet.len())];
+//! let linked = load(sheet, hosts, &mut table, &mut work)?;
+//!
+//! let (lift, passenger, goods, hydraulic) = (TypeId(0), TypeId(1), TypeId(2), TypeId(3));
+//! assert!(linked.descends(hydraulic, goods) && linked.descends(hydraulic, lift));
+//! assert!(!linked.descends(hydraulic, passenger));
+//! # Ok(())
+//! # }
+//! ```
+//!
+//! The loader itself is not Rust: this crate links `libpaqlluri.a`, which `rt staticlib paqlluri` proves and
+//! writes, and the proofs are about that. There is no heap, no global and no dependency; a call takes less than
+//! 96 KiB of stack, and threads may call at once.
+
+#![no_std]
+#![deny(missing_docs, unsafe_code, unsafe_op_in_unsafe_fn)]
+#![warn(clippy::pedantic)]
+
+mod error;
+pub mod raw;
+
+use core::error::Error;
+use core::fmt;
+
+pub use error::{FuncId, LoadError, LoadErrorKind, StrId, TypeKind, What};
+
+/// The bytes of a block, the words in it without its check word, and the most blocks of a sheet.
+const BLOCK: usize = 512;
+const BLOCK_WORDS: usize = 127;
+const MOST_BLOCKS: usize = 4096;
+
+/// The number of a type.
+#[derive(Clone, Copy, Debug, PartialEq, Eq, PartialOrd, Ord, Hash)]
+pub struct TypeId(pub u32);
+
+/// Words that are surely enough for the table of a sheet of so many bytes.
+///
+/// Just needed are 64 + 8N, N being the sheet's own count of words; a table so long is never
+/// refused as too short. No sheet needs more than [`MOST_WORDS`].
+#[must_use]
+pub const fn table_words(sheet_len: usize) -> usize {
+    // Over the most blocks the sheet is refused whatever the lengths are.
+    let blocks = sheet_len / BLOCK;
+    let blocks = if blocks < MOST_BLOCKS {
+        blocks
+    } else {
+        MOST_BLOCKS
+    };
+    64 + 8 * BLOCK_WORDS * blocks
+}
+
+/// Words that are surely enough for the work slice under a sheet of so many bytes: as many as for the table.
+#[must_use]
+pub const fn work_words(sheet_len: usize) -> usize {
+    table_words(sheet_len)
+}
+
+/// Words that are enough for any sheet.
+pub const MOST_WORDS: usize = table_words(MOST_BLOCKS * BLOCK);
+
+/// Loads a sheet under a host list into the lent words of `table`.
+///
+/// Accepted: the first words of `table` are the linked table, and those after them are as before.
+/// Refused: no word of `table` is changed. `work` is all zero after the call, except that
+/// [`Decode`](LoadErrorKind::Decode), [`BadHostList`](LoadErrorKind::BadHostList) and
+/// [`ShortSlice`](LoadErrorKind::ShortSlice) leave it as it was; what it holds before does not matter.
+///
+/// # Errors
+///
+/// The first rule that the sheet breaks, in the order of the rules.
+///
+/// ```
+/// # use paqlluri::{load, LoadErrorKind};
+/// let error = load(b"any bytes may come", b"", &mut [], &mut []).unwrap_err();
+/// assert_eq!(error.kind(), LoadErrorKind::Decode);
+/// ```
+///
+/// # Panics
+///
+/// Never: the numbers that it is given are proved to be an answer's.
+pub fn load<'a>(
+    sheet: &[u8],
+    hosts: &[u8],
+    table: &'a mut [u32],
+    work: &mut [u32],
+) -> Result<Linked<'a>, LoadError> {
+    match raw::load(sheet, hosts, table, work) {
+        [0, _, length, ..] => Ok(Linked {
+            words: &table[..length as usize],
+        }),
+        numbers => Err(LoadError::from_numbers(numbers).expect("load answers no other numbers")),
+    }
+}
+
+/// A linked table: the words that [`load`] wrote, or stored ones.
+#[derive(Clone, Copy, Debug, PartialEq, Eq)]
+pub struct Linked<'a> {
+    words: &'a [u32],
+}
+
+impl<'a> Linked<'a> {
+    /// A stored table, which may have further words after it.
+    ///
+    /// What is looked at is what the family query relies on: the first word, the length, and where the spans stand.
+    /// Whether [`load`] wrote the rest is not known; any answer of [`descends`](Self::descends) is then one about these words.
+    ///
+    /// # Errors
+    ///
+    /// [`NotLinked`], which is kind 25, where the words are no linked table.
+    ///
+    /// ```
+    /// # use paqlluri::{Linked, NotLinked};
+    /// assert_eq!(Linked::from_words(&[1, 2, 3]), Err(NotLinked));
+    /// ```
+    pub fn from_words(words: &'a [u32]) -> Result<Linked<'a>, NotLinked> {
+        match raw::descends(words, 0, 0) {
+            25 => Err(NotLinked),
+            // The second word is the length, which does not exceed the slice's.
+            _ => Ok(Linked {
+                words: &words[..words[1] as usize],
+            }),
+        }
+    }
+
+    /// The table's words, to be stored or read.
+    #[must_use]
+    pub fn words(&self) -> &'a [u32] {
+        self.words
+    }
+
+    /// Whether type `t` is type `a` or descends from it by declared parents.
+    ///
+    /// Numbers that are no struct type of the sheet, or no type at all, descend from nothing.
+    #[must_use]
+    pub fn descends(&self, t: TypeId, a: TypeId) -> bool {
+        raw::descends(self.words, t.0, a.0) == 1
+    }
+}
+
+/// The words are no linked table: kind 25.
+#[derive(Clone, Copy, Debug, PartialEq, Eq, Hash)]
+pub struct NotLinked;
+
+impl fmt::Display for NotLinked {
+    fn fmt(&self, f: &mut fmt::Formatter<'_>) -> fmt::Result {
+        f.write_str("not a linked table")
+    }
+}
+
+impl Error for NotLinked {}

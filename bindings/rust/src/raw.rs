@@ -1,0 +1,54 @@
+//! The two calls with the numbers of the answers as they are.
+//!
+//! [`load`](crate::load) and [`Linked`](crate::Linked) say the same in types.
+
+#![allow(unsafe_code)]
+
+mod ffi {
+    extern "C" {
+        pub fn paqlluri_load(
+            sheet: *const u8,
+            sheet_len: usize,
+            hosts: *const u8,
+            hosts_len: usize,
+            table: *mut u32,
+            table_len: usize,
+            work: *mut u32,
+            work_len: usize,
+            answer: *mut [u32; 6],
+        );
+
+        pub fn paqlluri_descends(table: *const u32, table_len: usize, t: u32, a: u32) -> u32;
+    }
+}
+
+/// Loads a sheet under a host list; gives kind, word, number, second, function + 1, position + 1.
+///
+/// Kind 0 is accepted: the first `number` words of `table` are the linked table.
+/// What `table` and `work` hold after the call is said at [`crate::load`].
+pub fn load(sheet: &[u8], hosts: &[u8], table: &mut [u32], work: &mut [u32]) -> [u32; 6] {
+    let mut answer = [0; 6];
+    // SAFETY: each pointer and length is a slice's, exclusive where it is written through, and the
+    // function takes any bytes and words, keeps no pointer, and writes within the last three alone.
+    unsafe {
+        ffi::paqlluri_load(
+            sheet.as_ptr(),
+            sheet.len(),
+            hosts.as_ptr(),
+            hosts.len(),
+            table.as_mut_ptr(),
+            table.len(),
+            work.as_mut_ptr(),
+            work.len(),
+            &raw mut answer,
+        );
+    }
+    answer
+}
+
+/// Whether type `t` is type `a` or descends from it: 1 yes, 0 no, 25 where the words are no linked table.
+#[must_use]
+pub fn descends(table: &[u32], t: u32, a: u32) -> u32 {
+    // SAFETY: pointer and length are a slice's, and the function reads any words within it alone.
+    unsafe { ffi::paqlluri_descends(table.as_ptr(), table.len(), t, a) }
+}

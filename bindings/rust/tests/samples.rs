@@ -1,0 +1,182 @@
+//! The library on the samples, on wrong words, and on a small stack.
+
+use paqlluri::{
+    load, table_words, work_words, Linked, LoadError, LoadErrorKind, NotLinked, StrId, TypeId,
+    MOST_WORDS,
+};
+
+const EMPTY: &[u8] = include_bytes!("../../../samples/empty.sheet");
+const LIFTS: &[u8] = include_bytes!("../../../samples/lifts.sheet");
+const SELF_PARENT: &[u8] = include_bytes!("../../../samples/self-parent.sheet");
+const HOSTS: &[u8] = include_bytes!("../../../samples/hosts");
+const README: &str = include_str!("../../../README.md");
+
+/// Words that neither a table nor a cleared work slice has.
+const BEFORE: u32 = 0xa5a5_a5a5;
+
+/// The words 1, 3, 0 and the check word of their block.
+fn no_hosts() -> Vec<u8> {
+    let mut words = [0; 128];
+    (words[0], words[1], words[127]) = (1, 3, 16);
+    words.iter().flat_map(|w: &u32| w.to_le_bytes()).collect()
+}
+
+/// The verdict in slices of so many words, and the slices after it.
+fn tried(sheet: &[u8], hosts: &[u8], words: usize) -> (Result<usize, LoadError>, [Vec<u32>; 2]) {
+    let (mut table, mut work) = (vec![BEFORE; words], vec![BEFORE; words]);
+    let verdict = load(sheet, hosts, &mut table, &mut work).map(|linked| linked.words().len());
+    (verdict, [table, work])
+}
+
+fn kind(verdict: Result<usize, LoadError>) -> LoadErrorKind {
+    verdict.expect_err("refused").kind()
+}
+
+#[test]
+fn the_lifts_are_accepted_and_have_families() {
+    let words = table_words(LIFTS.len());
+    let (verdict, [table, work]) = tried(LIFTS, HOSTS, words);
+    assert_eq!(verdict, Ok(167));
+    assert!(table[167..].iter().all(|&w| w == BEFORE));
+    assert!(work.iter().all(|&w| w == 0));
+    let linked = Linked::from_words(&table).expect("a linked table");
+    assert_eq!(linked.words(), &table[..167]);
+    // Lift; PassengerLift and GoodsLift below it; HydraulicGoodsLift below GoodsLift; func types.
+    let parents = [None, Some(0), Some(0), Some(2)];
+    for t in 0..9 {
+        for a in 0..9 {
+            let mut above = (t < 4).then_some(t);
+            while above.is_some_and(|n| n != a) {
+                above = above.and_then(|n| parents[n as usize]);
+            }
+            let declared = above.is_some();
+            assert_eq!(
+                linked.descends(TypeId(t), TypeId(a)),
+                declared,
+                "{t} from {a}"
+            );
+        }
+    }
+    assert!(!linked.descends(TypeId(u32::MAX), TypeId(u32::MAX)));
+}
+
+#[test]
+fn refusals_say_why_and_leave_the_table() {
+    let words = table_words(LIFTS.len());
+    let (verdict, [table, work]) = tried(LIFTS, &no_hosts(), words);
+    let error = verdict.expect_err("no host function");
+    let (module, name) = (StrId(9), StrId(10));
+    assert_eq!(
+        error.kind(),
+        LoadErrorKind::UnresolvedImport { module, name }
+    );
+    assert_eq!(
+        (error.numbers(), error.func(), error.pc()),
+        ([2, 0, 9, 10, 0, 0], None, None)
+    );
+    assert!(table.iter().all(|&w| w == BEFORE) && work.iter().all(|&w| w == 0));
+    let (verdict, _) = tried(SELF_PARENT, HOSTS, words);
+    assert_eq!(kind(verdict), LoadErrorKind::InheritanceTooDeep);
+}
+
+#[test]
+fn kinds_1_23_and_24_touch_nothing() {
+    let enough = table_words(EMPTY.len());
+    let cases = [
+        (&EMPTY[1..], HOSTS, enough, LoadErrorKind::Decode),
+        (EMPTY, EMPTY, enough, LoadErrorKind::BadHostList),
+        (EMPTY, &[], enough, LoadErrorKind::BadHostList),
+        (EMPTY, HOSTS, 64 + 8 * 11 - 1, LoadErrorKind::ShortSlice),
+        (EMPTY, HOSTS, 0, LoadErrorKind::ShortSlice),
+    ];
+    for (sheet, hosts, words, expected) in cases {
+        let (verdict, [table, work]) = tried(sheet, hosts, words);
+        assert_eq!(kind(verdict), expected);
+        assert!(table.iter().chain(&work).all(|&w| w == BEFORE));
+    }
+    assert_eq!(tried(EMPTY, HOSTS, 64 + 8 * 11).0, Ok(49));
+}
+
+#[test]
+fn lengths_are_enough_for_any_sheet() {
+    assert_eq!((table_words(0), table_words(512)), (64, 64 + 8 * 127));
+    assert_eq!(table_words(usize::MAX), MOST_WORDS);
+    assert_eq!(work_words(512 * 4096), MOST_WORDS);
+    assert_eq!(MOST_WORDS, 4_161_600);
+}
+
+#[test]
+fn stored_words_are_looked_at() {
+    let (_, [table, _]) = tried(EMPTY, HOSTS, 152);
+    assert_eq!(
+        Linked::from_words(&table[..49]).map(|l| l.words().len()),
+        Ok(49)
+    );
+    for words in [&[][..], &table[..9], &table[..48], &table[1..]] {
+        assert_eq!(Linked::from_words(words), Err(NotLinked));
+    }
+    let altered = |at: usize, word| {
+        let mut words = table.clone();
+        words[at] = word;
+        Linked::from_words(&words).is_err()
+    };
+    assert!(altered(0, 2) && altered(1, 153) && altered(9, 9) && altered(9, 49));
+}
+
+#[test]
+fn numbers_go_back_and_forth() {
+    let mut seen = 0;
+    for kind in 0..30 {
+        for word in 0..16 {
+            for numbers in [
+                [kind, word, 0, 0, 0, 0],
+                [kind, word, 7, 0, 1, 0],
+                [kind, word, 7, 8, 1, u32::MAX],
+            ] {
+                if let Some(error) = LoadError::from_numbers(numbers) {
+                    assert_eq!(error.numbers(), numbers);
+                    seen += 1;
+                }
+            }
+        }
+    }
+    // Each kind but 3 and 11 once with zeros, 14 and 4 words; 7 alone fits 2, 3, 8 and 19; 7 and 8 fit 2 and 8.
+    assert_eq!(seen, (22 + 14 + 4) + (14 + 3) + 2);
+    assert_eq!(LoadError::from_numbers([0, 0, 49, 0, 0, 0]), None);
+}
+
+#[test]
+fn kinds_are_called_as_in_the_readme() {
+    let table = README
+        .split("## The six numbers")
+        .nth(1)
+        .expect("a section");
+    let cells: Vec<&str> = table
+        .lines()
+        .filter(|line| line.starts_with("| "))
+        .flat_map(|line| line.split('|').map(str::trim))
+        .collect();
+    let (words_of_3, _) = README
+        .split_once("Words of kind 3: ")
+        .and_then(|(_, rest)| rest.split_once(".\n"))
+        .expect("the words of kind 3");
+    for kind in 1..=24 {
+        let place = cells.iter().position(|c| *c == kind.to_string());
+        let words = cells[place.expect("a row") + 1];
+        let plain = words.split(" (").next().expect("words");
+        let error = LoadError::from_numbers([kind, u32::from([3, 11].contains(&kind)), 0, 0, 0, 0]);
+        let said = error.expect("a kind").to_string();
+        assert!(said.starts_with(plain), "{kind}: {said:?}, {plain:?}");
+    }
+    for (word, name) in words_of_3
+        .split(", ")
+        .map(|w| w.split_once(' ').expect("a word"))
+    {
+        let word = word.parse().expect("a number");
+        let said = LoadError::from_numbers([3, word, 8, 0, 0, 0]).expect("a word of kind 3");
+        assert_eq!(
+            said.to_string(),
+            format!("a number is out of range: {name} 8")
+        );
+    }
+}

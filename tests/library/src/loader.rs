@@ -1,0 +1,23 @@
+//! What is put against the reference.
+
+/// The two calls, by their numbers.
+pub trait Loader: Sync {
+    /// The six numbers of a sheet under a host list.
+    fn load(&self, sheet: &[u8], hosts: &[u8], table: &mut [u32], work: &mut [u32]) -> [u32; 6];
+
+    /// 1 where `t` is `a` or descends from it, 0 where not, 25 where the words are no linked table.
+    fn descends(&self, table: &[u32], t: u32, a: u32) -> u32;
+}
+
+/// The library of this repository.
+pub struct Library;
+
+impl Loader for Library {
+    fn load(&self, sheet: &[u8], hosts: &[u8], table: &mut [u32], work: &mut [u32]) -> [u32; 6] {
+        paqlluri::raw::load(sheet, hosts, table, work)
+    }
+
+    fn descends(&self, table: &[u32], t: u32, a: u32) -> u32 {
+        paqlluri::raw::descends(table, t, a)
+    }
+}
