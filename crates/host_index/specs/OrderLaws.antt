@@ -33,6 +33,32 @@ placed ws v p = wordAt v (entryCount ws + 1) p
 abbrev pub orderAt : List ℕ → List ℕ → List ℕ → List ℕ → ℕ → Ordering
 orderAt ws v m n p = pairOrder m n (entryOf ws (placed ws v p))
 
+abbrev pub isEqual : Ordering → Bool
+isEqual Less = false
+isEqual Equal = true
+isEqual Greater = false
+
+equal-is : (c : Ordering) → isEqual c ≡ true → c ≡ Equal
+equal-is Less e = let z : _≡_ {A = ℕ} 0 1 = cc in absurd (omega arith)
+equal-is Equal e = refl
+equal-is Greater e = let z : _≡_ {A = ℕ} 0 1 = cc in absurd (omega arith)
+
+-- two entries have one pair
+unfoldable pub samePair : List ℕ → ℕ → ℕ → Bool
+samePair ws x y = isEqual (pairOrder (entryOf ws x .moduleName) (entryOf ws x .name) (entryOf ws y))
+
+-- of the first i places no two neighbours have one pair
+pub record Differ (ws v : List ℕ) (i : ℕ) : Type 0 where
+  pub from : 1 ≤ i
+  pub differ : (p : ℕ) → p + 1 < i → lex (pairOf (entryOf ws (placed ws v p))) (pairOf (entryOf ws (placed ws v (p + 1)))) ≡ Equal → ⊥
+
+-- below lo all pairs are lower, from hi on all are higher
+pub record Halves (ws v m n : List ℕ) (lo hi : ℕ) : Type 0 where
+  pub low : lo ≤ hi
+  pub high : hi ≤ entryCount ws
+  pub lower : (p : ℕ) → p < lo → orderAt ws v m n p ≡ Greater
+  pub higher : (p : ℕ) → hi ≤ p → p < entryCount ws → orderAt ws v m n p ≡ Less
+
 module _ (ws v : List ℕ) (a : Arranged ws v) where
   pub placed-below : (p : ℕ) → p < entryCount ws → placed ws v p < entryCount ws
   placed-below p h = a .ordered .below p h
@@ -47,21 +73,17 @@ module _ (ws v : List ℕ) (a : Arranged ws v) where
 
   -- ── no pair twice ──
 
-  -- the first i places: no two neighbours have one pair
-  pub record Differ (i : ℕ) : Type 0 where
-    pub differ : (p : ℕ) → p + 1 < i → lex (pairOf (entryOf ws (placed ws v p))) (pairOf (entryOf ws (placed ws v (p + 1)))) ≡ Equal → ⊥
-
-  differ-far : (i p q : ℕ) → Differ i → i ≤ entryCount ws → p < q → q < i → pairOf (entryOf ws (placed ws v p)) ≡ pairOf (entryOf ws (placed ws v q)) → ⊥
-  differ-far i p q d l h k e =
+  differ-far : (i p q : ℕ) → Differ ws v i → p < q → q < i → q < entryCount ws → pairOf (entryOf ws (placed ws v p)) ≡ pairOf (entryOf ws (placed ws v q)) → ⊥
+  differ-far i p q d h k l e =
       d .differ p (omega arith)
       (between (pairOf (entryOf ws (placed ws v p))) (pairOf (entryOf ws (placed ws v (p + 1)))) (pairOf (entryOf ws (placed ws v q))) e
       (rises p (p + 1) (omega arith) (omega arith)) (rises (p + 1) q (omega arith) (omega arith)))
 
-  pub differ-start : Differ 1
-  differ-start = record { differ = λ p h. absurd (omega arith) }
+  pub differ-start : Differ ws v 1
+  differ-start = record { from = omega arith; differ = λ p h. absurd (omega arith) }
 
-  pub differ-next : (i : ℕ) → Differ i → (lex (pairOf (entryOf ws (placed ws v (i - 1)))) (pairOf (entryOf ws (placed ws v i))) ≡ Equal → ⊥) → Differ (i + 1)
-  differ-next i d n = record { differ = λ p h e. go p h e (decLt (p + 1) i) }
+  pub differ-next : (i : ℕ) → Differ ws v i → (lex (pairOf (entryOf ws (placed ws v (i - 1)))) (pairOf (entryOf ws (placed ws v i))) ≡ Equal → ⊥) → Differ ws v (i + 1)
+  differ-next i d n = record { from = omega arith; differ = λ p h e. go p h e (decLt (p + 1) i) }
     where
       go : (p : ℕ) → p + 1 < i + 1 → lex (pairOf (entryOf ws (placed ws v p))) (pairOf (entryOf ws (placed ws v (p + 1)))) ≡ Equal → Dec (p + 1 < i) → ⊥
       go p h e (yes k) = d .differ p k e
@@ -70,17 +92,25 @@ module _ (ws v : List ℕ) (a : Arranged ws v) where
           let y : p ≡ i - 1 = omega arith in
           n (ap₂ (λ j k. lex (pairOf (entryOf ws (placed ws v j))) (pairOf (entryOf ws (placed ws v k)))) (sym y) (sym x) ∙ e)
 
+  same-of : (x y : ℕ) {b : Bool} → b ≡ samePair ws x y → b ≡ true → lex (pairOf (entryOf ws x)) (pairOf (entryOf ws y)) ≡ Equal
+  unfolding samePair pairOrder
+  same-of x y e t = equal-is (lex (pairOf (entryOf ws x)) (pairOf (entryOf ws y))) (sym e ∙ t)
+
+  differ-of : (x y : ℕ) {b : Bool} → b ≡ samePair ws x y → b ≡ false → lex (pairOf (entryOf ws x)) (pairOf (entryOf ws y)) ≡ Equal → ⊥
+  unfolding samePair pairOrder
+  differ-of x y e t q = let z : true ≡ false = sym (ap isEqual q) ∙ sym e ∙ t in let o : _≡_ {A = ℕ} 0 1 = cc in omega arith
+
   pair-equal : (i j : ℕ) → alike (hostsIn ws) i j ≡ true → pairOf (entryOf ws i) ≡ pairOf (entryOf ws j)
   pair-equal i j e = lex-same (pairOf (entryOf ws i)) (pairOf (entryOf ws j)) (unfold pairOrder in named-equal (entryOf ws i .moduleName) (entryOf ws i .name) (entryOf ws j) e)
 
-  pub all-differ : (i : ℕ) → Differ i → i ≤ entryCount ws → entryCount ws ≤ i → true ≡ pairsDistinct (hostsIn ws)
-  all-differ i d l m = sym (apart (hostsIn ws) λ x y h k. go x y h (omega (arith, edged-count ws v (a .edges))) (alike (hostsIn ws) x y) refl)
+  pub all-differ : (i : ℕ) → Differ ws v i → entryCount ws ≤ i → true ≡ pairsDistinct (hostsIn ws)
+  all-differ i d l = sym (apart (hostsIn ws) λ x y h k. go x y h (omega (arith, edged-count ws v (a .edges))) (alike (hostsIn ws) x y) refl)
     where
       apart-at : (x y : ℕ) → x < y → pairOf (entryOf ws x) ≡ pairOf (entryOf ws y) → (w : Place (placed ws v) 0 (entryCount ws) x) (u : Place (placed ws v) 0 (entryCount ws) y) → Dec (w .at < u .at) → Dec (u .at < w .at) → ⊥
       apart-at x y h e w u (yes k) t =
-          differ-far i (w .at) (u .at) d l k (omega (arith, u .to)) (ap (λ n. pairOf (entryOf ws n)) (w .is) ∙ e ∙ ap (λ n. pairOf (entryOf ws n)) (sym (u .is)))
+          differ-far i (w .at) (u .at) d k (omega (arith, u .to)) (u .to) (ap (λ n. pairOf (entryOf ws n)) (w .is) ∙ e ∙ ap (λ n. pairOf (entryOf ws n)) (sym (u .is)))
       apart-at x y h e w u (no s) (yes k) =
-          differ-far i (u .at) (w .at) d l k (omega (arith, w .to)) (ap (λ n. pairOf (entryOf ws n)) (u .is) ∙ sym e ∙ ap (λ n. pairOf (entryOf ws n)) (sym (w .is)))
+          differ-far i (u .at) (w .at) d k (omega (arith, w .to)) (w .to) (ap (λ n. pairOf (entryOf ws n)) (u .is) ∙ sym e ∙ ap (λ n. pairOf (entryOf ws n)) (sym (w .is)))
       apart-at x y h e w u (no s) (no k) =
           let z : w .at ≡ u .at = omega arith in
           let o : x ≡ y = sym (w .is) ∙ ap (placed ws v) z ∙ u .is in
@@ -115,31 +145,24 @@ module _ (ws v : List ℕ) (a : Arranged ws v) where
   -- ── a pair by halves ──
 
   module _ (m n : List ℕ) where
-    -- below lo all pairs are lower, from hi on all are higher
-    pub record Halves (lo hi : ℕ) : Type 0 where
-      pub low : lo ≤ hi
-      pub high : hi ≤ entryCount ws
-      pub lower : (p : ℕ) → p < lo → orderAt ws v m n p ≡ Greater
-      pub higher : (p : ℕ) → hi ≤ p → p < entryCount ws → orderAt ws v m n p ≡ Less
-
-    pub halves-start : Halves 0 (entryCount ws)
+    pub halves-start : Halves ws v m n 0 (entryCount ws)
     halves-start = record { low = omega arith; high = omega arith; lower = λ p h. absurd (omega arith); higher = λ p h k. absurd (omega arith) }
 
-    module _ (lo hi mid : ℕ) (c : Halves lo hi) (h : lo ≤ mid) (k : mid < hi) where
-      pub halves-less : orderAt ws v m n mid ≡ Less → Halves lo mid
+    module _ (lo hi mid : ℕ) (c : Halves ws v m n lo hi) (h : lo ≤ mid) (k : mid < hi) where
+      pub halves-less : orderAt ws v m n mid ≡ Less → Halves ws v m n lo mid
       halves-less e = record { low = h; high = omega (arith, c .high); lower = c .lower; higher = λ p l o. go p l o }
         where
           go : (p : ℕ) → mid ≤ p → p < entryCount ws → orderAt ws v m n p ≡ Less
           go p l o = unfold pairOrder in less-then (pairWords m n) (pairOf (entryOf ws (placed ws v mid))) (pairOf (entryOf ws (placed ws v p))) (unfold pairOrder in e) (rises mid p l o)
 
-      pub halves-greater : orderAt ws v m n mid ≡ Greater → Halves (mid + 1) hi
+      pub halves-greater : orderAt ws v m n mid ≡ Greater → Halves ws v m n (mid + 1) hi
       halves-greater e = record { low = omega arith; high = c .high; lower = λ p l. go p l; higher = c .higher }
         where
           go : (p : ℕ) → p < mid + 1 → orderAt ws v m n p ≡ Greater
           go p l = unfold pairOrder in greater-then (pairWords m n) (pairOf (entryOf ws (placed ws v p))) (pairOf (entryOf ws (placed ws v mid))) (unfold pairOrder in e) (rises p mid (omega arith) (omega (arith, c .high)))
 
     -- no place is left
-    pub halves-end : (lo hi : ℕ) → Halves lo hi → hi ≤ lo → entryCount ws ≡ lookup (hostsIn ws) m n
+    pub halves-end : (lo hi : ℕ) → Halves ws v m n lo hi → hi ≤ lo → entryCount ws ≡ lookup (hostsIn ws) m n
     halves-end lo hi c h = sym (edged-count ws v (a .edges)) ∙ looked-nowhere (hostsIn ws) m n λ i k e. go i (a .ordered .all i (omega (arith, edged-count ws v (a .edges)))) e
       where
         none : (p : ℕ) → p < entryCount ws → Dec (p < lo) → orderAt ws v m n p ≡ Equal → ⊥
@@ -162,3 +185,50 @@ module _ (ws v : List ℕ) (a : Arranged ws v) where
             let x : pairOf (entryOf ws i) ≡ pairOf (entryOf ws e) = sym (lex-same (pairWords m n) (pairOf (entryOf ws i)) (unfold pairOrder in named-equal m n (entryOf ws i) t)) ∙ lex-same (pairWords m n) (pairOf (entryOf ws e)) (unfold pairOrder in q) in
             let y : true ≡ false = sym d ∙ pair-twice i e (omega arith) (omega arith) h x in
             let z : _≡_ {A = ℕ} 0 1 = cc in omega arith
+
+-- ── the places as they are read ──
+
+module _ (ws v : List ℕ) (a : Arranged ws v) (count i : ℕ) (k : count ≡ entryCount ws) {x y : ℕ} (ex : x ≡ getD v (count + i) 0) (ey : y ≡ getD v (count + 1 + i) 0) (d : Differ ws v i) (h : i < count) where
+  first-is : x ≡ placed ws v (i - 1)
+  first-is = let z : count + i ≡ entryCount ws + 1 + (i - 1) = omega (arith, d .from) in ex ∙ ap (λ j. getD v j 0) z
+
+  second-is : y ≡ placed ws v i
+  second-is = let z : count + 1 + i ≡ entryCount ws + 1 + i = omega arith in ey ∙ ap (λ j. getD v j 0) z
+
+  pub neighbours-below : (x < entryCount ws) × (y < entryCount ws)
+  neighbours-below =
+      (subst (λ j. j < entryCount ws) (sym first-is) (placed-below ws v a (i - 1) (omega (arith, d .from))), subst (λ j. j < entryCount ws) (sym second-is) (placed-below ws v a i (omega arith)))
+
+  module _ {b : Bool} (e : b ≡ samePair ws x y) where
+    pub neighbours-differ : b ≡ false → Differ ws v (i + 1)
+    neighbours-differ t = differ-next ws v a i d (λ q. differ-of ws v a x y e t (ap₂ (λ j l. lex (pairOf (entryOf ws j)) (pairOf (entryOf ws l))) first-is second-is ∙ q))
+
+    pub neighbours-equal : b ≡ true → false ≡ pairsDistinct (hostsIn ws)
+    neighbours-equal t = some-equal ws v a i (d .from) (omega arith) (ap₂ (λ j l. lex (pairOf (entryOf ws j)) (pairOf (entryOf ws l))) (sym first-is) (sym second-is) ∙ same-of ws v a x y e t)
+
+module _ (ws v : List ℕ) (a : Arranged ws v) (m n : List ℕ) (count lo hi mid : ℕ) (k : count ≡ entryCount ws) {e : ℕ} (c : Halves ws v m n lo hi) (h : lo ≤ mid) (l : mid < hi) (ee : e ≡ getD v (count + 1 + mid) 0) where
+  middle-is : e ≡ placed ws v mid
+  middle-is = let z : count + 1 + mid ≡ entryCount ws + 1 + mid = omega arith in ee ∙ ap (λ j. getD v j 0) z
+
+  pub middle-below : e < entryCount ws
+  middle-below = subst (λ j. j < entryCount ws) (sym middle-is) (placed-below ws v a mid (omega (arith, c .high)))
+
+  module _ {r : Ordering} (f : r ≡ pairOrder m n (entryOf ws e)) where
+    order-there : {x : Ordering} → r ≡ x → orderAt ws v m n mid ≡ x
+    order-there g = ap (λ j. pairOrder m n (entryOf ws j)) (sym middle-is) ∙ sym f ∙ g
+
+    pub middle-less : r ≡ Less → Halves ws v m n lo mid
+    middle-less g = halves-less ws v a m n lo hi mid c h l (order-there g)
+
+    pub middle-greater : r ≡ Greater → Halves ws v m n (mid + 1) hi
+    middle-greater g = halves-greater ws v a m n lo hi mid c h l (order-there g)
+
+    pub middle-equal : wellFormed m ≡ true → wellFormed n ≡ true → pairsDistinct (hostsIn ws) ≡ true → r ≡ Equal → e ≡ lookup (hostsIn ws) m n
+    middle-equal p q d g = halves-found ws v a m n e p q d middle-below (sym f ∙ g)
+
+module _ (ws v : List ℕ) (a : Arranged ws v) (m n : List ℕ) (count : ℕ) where
+  pub halves-read : count ≡ entryCount ws → Halves ws v m n 0 count
+  halves-read k = subst (Halves ws v m n 0) (sym k) (halves-start ws v a m n)
+
+  pub halves-none : (lo hi : ℕ) → count ≡ entryCount ws → Halves ws v m n lo hi → hi ≤ lo → count ≡ lookup (hostsIn ws) m n
+  halves-none lo hi k c h = k ∙ halves-end ws v a m n lo hi c h

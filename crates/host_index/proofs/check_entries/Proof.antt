@@ -1,0 +1,63 @@
+-- `host_index::check_entries` meets its contract.
+use native.Mathlib.Omega.{arith}
+use Rattle.blocks.specs.ByteLaws.{all-bytes}
+use Rattle.blocks.specs.Frame.{firstWords}
+use Rattle.reader.specs.Reader.{listOf}
+use Rattle.reader.specs.Value.{Whole}
+use Rattle.host.specs.Host.{hostFn}
+use Rattle.host_index.proofs.ListSteps.{listing, roomy, broken-sorted, intact-sorted}
+use borrow.Author.Needs.{needs}
+use Rattle.host_index.proofs.check_entries.Statement.{statement}
+use Rattle.host_index.proofs.check_entries.Tie as tie
+
+skip-entries-requires : tie.Need-skip-entries-requires
+skip-entries-requires c κs = search needs
+
+enum-known-end : tie.Need-enum-known-end
+enum-known-end c = search needs
+
+enum-told : tie.Need-enum-told
+enum-told c = search needs
+
+returns : tie.Need-returns
+returns c = (search (needs, listing), broken-sorted _ _)
+
+returns-2 : tie.Need-returns-2
+returns-2 c = (search (needs, listing), broken-sorted _ _)
+
+sort-entries-requires : tie.Need-sort-entries-requires
+sort-entries-requires c κs =
+    let s = c .before .before .before .before .before .before .before .before in
+    let w : Whole (listOf hostFn (firstWords (s .args .hosts .now) (s .args .n)) 2) = search (needs, listing) in
+    (w, (s .pre .0, roomy _ _ _ w (all-bytes (s .args .hosts .now) (λ i. omega (arith, c .before .before .before .before .before .before .before .shared-slice-known .given i))) (s .pre .0) (s .pre .1)))
+
+is-distinct-requires : tie.Need-is-distinct-requires
+is-distinct-requires c κs = search needs
+
+same-length : tie.Need-same-length
+same-length c = search needs
+
+returns-3 : tie.Need-returns-3
+returns-3 c = (search (needs, listing), intact-sorted _ _ _ (c .before .before .before .before .before .sort-entries .ensures) (c .before .is-distinct .ensures) (c .if2 .taken))
+
+same-length-2 : tie.Need-same-length-2
+same-length-2 c = search needs
+
+returns-4 : tie.Need-returns-4
+returns-4 c = (search (needs, listing), broken-sorted _ _)
+
+pub check-entries-spec : {M : Type 1} → statement M
+check-entries-spec =
+    tie.close
+    (tie.spec
+    skip-entries-requires
+    enum-known-end
+    enum-told
+    returns
+    returns-2
+    sort-entries-requires
+    is-distinct-requires
+    same-length
+    returns-3
+    same-length-2
+    returns-4)
