@@ -1,5 +1,5 @@
 -- For the code that checks a host list.
-use Prim.Native.Nat.{ℕ, _+_, _*_, _≤_}
+use Prim.Native.Nat.{ℕ, _+_, _*_, _≤_, _<_}
 use mathlib.Core.Path.{_≡_, refl, sym, ap, subst, _∙_}
 use mathlib.Core.List.{List, []}
 use mathlib.Core.Bool.{Bool, true, false, cond}
@@ -30,7 +30,8 @@ use Rattle.host.specs.Listed.{listedFor, listedOf, hostsIn}
 use Rattle.host.specs.Seek.{listedIn}
 use Rattle.host.specs.ListedLaws.{listed-framed}
 use Rattle.host_index.specs.Sorted.{Roomy, entryCount, Arranged, SortedHosts, SortedIf}
-use Rattle.host_index.specs.EdgedLaws.{few-entries}
+use Rattle.host_index.specs.EdgedLaws.{hosts-count, entries-inside}
+use Rattle.host_index.specs.Bare.{distinct-few}
 
 -- ── the entries ──
 
@@ -69,6 +70,9 @@ module _ (n : ℕ) (ws : List ℕ) {r : Step} where
       pub pairs-twice : x ≡ false → Broken ≡ listedIn n ws
       pairs-twice t = sym (ended ∙ ap (λ b. cond b (Intact n) Broken) t)
 
+    pub entries-crowded : q ≡ n → false ≡ pairsDistinct (hostsIn ws) → Broken ≡ listedIn n ws
+    entries-crowded h k = pairs-twice h k refl
+
 pub ruleset listing = (entries-stop, entries-whole, entries-elsewhere, pairs-once, pairs-twice)
 
 -- ── the bytes ──
@@ -85,11 +89,20 @@ module _ (bytes : List ℕ) where
 
 -- ── the index ──
 
--- an intact list has 173,396 entries or fewer
-pub roomy : (b : List ℕ) (n k : ℕ) → Whole (listOf hostFn (firstWords b n) 2) → all isByte b ≡ true → n ≤ 520192 → Roomy b k → 3 * entryCount (firstWords b n) + 1 ≤ k
+-- where there are no more entries than an intact list has, there is room for them
+pub roomy : (b : List ℕ) (n k count : ℕ) → Whole (listOf hostFn (firstWords b n) 2) → count ≡ entryCount (firstWords b n) → count ≤ 130047 → Roomy b k → 3 * entryCount (firstWords b n) + 1 ≤ k
 unfolding Roomy
-roomy b n k w s h r =
-    omega (arith, few-entries (firstWords b n) w (firstWords-small b n s), length-firstWords b n, firstWords-at b n 2 (list-within hostFn b n 2 w))
+roomy b n k count w c h r = omega (arith, firstWords-at b n 2 (list-within hostFn b n 2 w))
+
+-- of more entries two are the pair of empty strings
+pub crowded : (b : List ℕ) (n count : ℕ) → Whole (listOf hostFn (firstWords b n) 2) → all isByte b ≡ true → n ≤ 520192 → count ≡ entryCount (firstWords b n) → 130047 < count → false ≡ pairsDistinct (hostsIn (firstWords b n))
+crowded b n count w s h c l = go (pairsDistinct (hostsIn (firstWords b n))) refl
+  where
+    go : (x : Bool) → pairsDistinct (hostsIn (firstWords b n)) ≡ x → false ≡ x
+    go false e = refl
+    go true e =
+        let m = firstWords-small b n s in
+        absurd (omega (arith, length-firstWords b n, entries-inside (firstWords b n) w m, hosts-count (firstWords b n) w m, distinct-few (hostsIn (firstWords b n)) e))
 
 pub broken-sorted : (b v : List ℕ) → SortedIf Broken b v
 unfolding SortedIf

@@ -133,10 +133,16 @@ module _ (ws v : List ℕ) (d : Edged ws v) where
 
 -- ── the room ──
 
--- a list of n words has few entries
-pub few-entries : (ws : List ℕ) → Whole (listOf hostFn ws 2) → all isWord ws ≡ true → 3 + 3 * entryCount ws ≤ length ws
-few-entries ws w small = opened ws w λ q h e.
-    let c = host-codes ws small in
-    let s = many-found ws hostFn encodeHost codedHost c (entryCount ws) 3 (hostsIn ws) q e .0 .stands in
-    let xs = concatMap encodeHost (hostsIn ws) in
-    omega (arith, s .end, length-drop 3 ws, length-drop q ws, ap length (s .words), length-append xs (drop q ws), many-fit ws hostFn encodeHost codedHost c 3 entry-long (entryCount ws) 3 (hostsIn ws) q e)
+module _ (ws : List ℕ) (w : Whole (listOf hostFn ws 2)) (small : all isWord ws ≡ true) where
+  -- the entries stand after word 2
+  pub entries-inside : 3 + length (concatMap encodeHost (hostsIn ws)) ≤ length ws
+  entries-inside = opened ws w λ q h e.
+      let s = many-found ws hostFn encodeHost codedHost (host-codes ws small) (entryCount ws) 3 (hostsIn ws) q e .0 .stands in
+      omega (arith, s .end, length-drop 3 ws, length-drop q ws, ap length (s .words), length-append (concatMap encodeHost (hostsIn ws)) (drop q ws))
+
+  -- a list of n words has few entries
+  pub few-entries : 3 + 3 * entryCount ws ≤ length ws
+  few-entries = opened ws w λ q h e.
+      let c = host-codes ws small in
+      let s = many-found ws hostFn encodeHost codedHost c (entryCount ws) 3 (hostsIn ws) q e .0 .stands in
+      omega (arith, entries-inside, s .end, many-fit ws hostFn encodeHost codedHost c 3 entry-long (entryCount ws) 3 (hostsIn ws) q e)

@@ -5,5 +5,4 @@ pub mod Once
 pub mod EdgedLaws
 pub mod OrderLaws
 pub mod RangeOrder
-pub mod EntryOrder
-pub mod IndexSteps
+pub mod Bare

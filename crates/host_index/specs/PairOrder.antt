@@ -56,7 +56,8 @@ lex-front (u ∷ a) (v ∷ b) x y e = go (three u v) (lex-front a b x y (omega a
         equal u v (lex (a ++ x) (b ++ y)) (omega arith) (omega arith) ∙ i
         ∙ ap (λ c. thenBy c (lex x y)) (sym (equal u v (lex a b) (omega arith) (omega arith)))
 
-words-count : (s : List ℕ) → length (encodeString s) ≡ suc (wordsFor (length s))
+-- the length, and a word for each four bytes
+pub words-count : (s : List ℕ) → length (encodeString s) ≡ suc (wordsFor (length s))
 unfolding encodeString
 words-count s = ap suc (length-map (pieces 4 (wordsFor (length s)) s) number ∙ length-pieces 4 (wordsFor (length s)) s)
 

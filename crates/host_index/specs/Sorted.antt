@@ -17,9 +17,9 @@ use Rattle.host.specs.declared.Listed.the-variants.{Intact}
 use Rattle.host.specs.Host.{hostFn, pairsDistinct, nobody}
 use Rattle.host.specs.Listed.{hostsIn}
 
--- the words that an index of the list takes: three for each entry and one more, and no intact list has more than 173,396 entries
+-- room for an index of the list: three words for each entry and one more; no intact list has more than 130,047 entries
 unfoldable pub Roomy : List ℕ → ℕ → Type 0
-Roomy b k = 3 * min (getD (words b) 2 0) 173397 + 1 ≤ k
+Roomy b k = 3 * min (getD (words b) 2 0) 130047 + 1 ≤ k
 
 -- of an intact list the word that counts its entries is word 2
 abbrev pub entryCount : List ℕ → ℕ

@@ -27,7 +27,7 @@ use host::Listed;
 use host::entries::skip_entries;
 use reader::Step;
 
-// The entries fill the n words, and no pair stands twice.
+// The entries fill the n words, and no pair stands twice: of more than 130,047 entries two are the pair of empty strings.
 fn check_entries(hosts: &[u8], n: usize, index: &mut [u32]) -> Listed
     requires { ⌜ n ≤ 520192 ⌝ }
     requires { ⌜ Roomy (now hosts) (length (now index)) ⌝ }
@@ -38,6 +38,9 @@ fn check_entries(hosts: &[u8], n: usize, index: &mut [u32]) -> Listed
         return Listed::Broken;
     };
     if end != n {
+        return Listed::Broken;
+    }
+    if 130047 < entry_count(hosts, n) {
         return Listed::Broken;
     }
     sort_entries(hosts, n, index);

@@ -1,7 +1,7 @@
 -- `host_index::compare/compare_entry` meets its contract.
 use native.Mathlib.Omega.{arith}
 use borrow.Author.Needs.{needs}
-use Rattle.host_index.specs.EntryOrder.{compared-module, compared-name, compared-less, compared-greater, compared-equal}
+use Rattle.host_index.proofs.EntrySteps.{compared-module, compared-name, compared-less, compared-greater, compared-equal}
 use Rattle.host_index.proofs.compare.compare_entry.Statement.{statement}
 use Rattle.host_index.proofs.compare.compare_entry.Tie as tie
 

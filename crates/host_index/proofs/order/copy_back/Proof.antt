@@ -2,7 +2,7 @@
 use Prim.Native.Nat.{_-_}
 use native.Mathlib.Omega.{arith}
 use borrow.Author.Needs.{needs}
-use Rattle.host_index.specs.IndexSteps.{Copying, copying-start, copying-next}
+use Rattle.host_index.proofs.IndexSteps.{Copying, copying-start, copying-next}
 use Rattle.host_index.proofs.order.copy_back.Statement.{statement}
 use Rattle.host_index.proofs.order.copy_back.Tie as tie
 

@@ -1,6 +1,6 @@
 -- `host_index::order/entry_count` meets its contract.
 use borrow.Author.Needs.{needs}
-use Rattle.host_index.specs.IndexSteps.{count-read}
+use Rattle.host_index.proofs.IndexSteps.{count-read}
 use borrow.Author.Needs.{needs}
 use Rattle.host_index.proofs.order.entry_count.Statement.{statement}
 use Rattle.host_index.proofs.order.entry_count.Tie as tie

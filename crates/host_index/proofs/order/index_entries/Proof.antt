@@ -4,7 +4,7 @@ use native.Mathlib.Omega.{arith}
 use borrow.Author.Needs.{needs}
 use Rattle.blocks.specs.ByteLaws.{all-bytes}
 use Rattle.host.specs.EntryWalk.{kind-within}
-use Rattle.host_index.specs.IndexSteps.{Edging, edging-start, edging-whole, edging-next, edging-end}
+use Rattle.host_index.proofs.IndexSteps.{Edging, edging-start, edging-whole, edging-next, edging-end}
 use Rattle.host_index.proofs.order.index_entries.Statement.{statement}
 use Rattle.host_index.proofs.order.index_entries.Tie as tie
 

@@ -1,7 +1,7 @@
 -- `host_index::order/sort_entries` meets its contract.
 use native.Mathlib.Omega.{arith}
 use borrow.Author.Needs.{needs}
-use Rattle.host_index.specs.IndexSteps.{sort-asks, order-lies, order-elsewhere, order-copied}
+use Rattle.host_index.proofs.IndexSteps.{sort-asks, order-lies, order-elsewhere, order-copied}
 use Rattle.host_index.proofs.order.sort_entries.Statement.{statement}
 use Rattle.host_index.proofs.order.sort_entries.Tie as tie
 

@@ -37,7 +37,7 @@ at-requires-2 c κs = omega (arith, c .before .before .before .entry-count .ensu
 same-pair-requires : tie.Need-same-pair-requires Inv-loop μ-loop
 same-pair-requires c κs =
     let s = c .before .before .before .before .before .before .before in
-    (s .pre .edges, neighbours-below _ _ (s .pre) _ _ (c .before .before .before .before .entry-count .ensures) (c .before .at .ensures) (c .at2 .ensures) (c .before .before .before .loop .inv) (c .before .before .loop-test .taken))
+    (s .pre .edges, omega (arith, neighbours-below _ _ (s .pre) _ _ (c .before .before .before .before .entry-count .ensures) (c .before .at .ensures) (c .at2 .ensures) (c .before .before .before .loop .inv) (c .before .before .loop-test .taken)))
 
 returns : tie.Need-returns Inv-loop μ-loop
 returns c =

@@ -1,7 +1,7 @@
 -- `host_index::pairs/same_pair` meets its contract.
 use native.Mathlib.Omega.{arith}
 use borrow.Author.Needs.{needs}
-use Rattle.host_index.specs.EntryOrder.{compared-module, compared-name, pairs-less, pairs-equal, pairs-greater}
+use Rattle.host_index.proofs.EntrySteps.{compared-module, compared-name, pairs-less, pairs-equal, pairs-greater}
 use Rattle.host_index.proofs.pairs.same_pair.Statement.{statement}
 use Rattle.host_index.proofs.pairs.same_pair.Tie as tie
 

@@ -1,5 +1,5 @@
 -- `host_index::search/is_scheduler` meets its contract.
-use Rattle.host_index.specs.EntryOrder.{found-whole, kind-read}
+use Rattle.host_index.proofs.EntrySteps.{found-whole, kind-read}
 use borrow.Author.Needs.{needs}
 use Rattle.host_index.proofs.search.is_scheduler.Statement.{statement}
 use Rattle.host_index.proofs.search.is_scheduler.Tie as tie
