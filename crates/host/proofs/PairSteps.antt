@@ -21,7 +21,7 @@ use Rattle.host.specs.Host.{hostFn, named, pairsDistinct, nobody}
 use Rattle.host.specs.Listed.{found, hostsIn, textAt}
 use Rattle.host.specs.Seek.{entryAt, entriesAt, seek, isAmong}
 use Rattle.host.specs.SeekLaws.{seek-found, seek-some, seek-none}
-use Rattle.host.proofs.EntryWalk.{ends-at, entry-texts, kind-word}
+use Rattle.host.specs.EntryWalk.{ends-at, entry-texts, kind-word}
 
 -- ── one entry and the others ──
 

@@ -16,7 +16,7 @@ use Rattle.reader.specs.Step.{stepOf}
 use Rattle.reader.specs.Value.{Whole, valueOf}
 use Rattle.reader.specs.ValueLaws.{whole-inv, got-whole, value-got, many-first}
 use Rattle.host.specs.Seek.{sameText}
-use Rattle.host.proofs.Texts.{same-length, same-front, same-words, word-inv, Packed, packed, text-length, same-packed}
+use Rattle.host.specs.Texts.{same-length, same-front, same-words, word-inv, Packed, packed, text-length, same-packed}
 
 -- ── where a string ends ──
 

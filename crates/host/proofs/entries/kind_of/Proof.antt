@@ -1,6 +1,6 @@
 -- `host::entries/kind_of` meets its contract.
 use borrow.Author.Needs.{needs}
-use Rattle.host.proofs.EntryWalk.{walking}
+use Rattle.host.specs.EntryWalk.{walking}
 use Rattle.host.proofs.entries.kind_of.Statement.{statement}
 use Rattle.host.proofs.entries.kind_of.Tie as tie
 

@@ -3,7 +3,7 @@ use borrow.Author.Needs.{needs}
 use native.Mathlib.Omega.{arith}
 use Rattle.blocks.specs.Frame.{firstWords}
 use Rattle.host.specs.Listed.{textAt}
-use Rattle.host.proofs.EntryWalk.{kind-within}
+use Rattle.host.specs.EntryWalk.{kind-within}
 use Rattle.host.proofs.PairSteps.{Seeks, seeking}
 use Rattle.host.proofs.pairs.find.Statement.{statement}
 use Rattle.host.proofs.pairs.find.Tie as tie

@@ -1,6 +1,6 @@
 -- `host::pairs/is_among` meets its contract.
 use borrow.Author.Needs.{needs}
-use Rattle.host.proofs.EntryWalk.{entry-module, entry-name}
+use Rattle.host.specs.EntryWalk.{entry-module, entry-name}
 use Rattle.host.proofs.PairSteps.{among-some, among-none}
 use Rattle.host.proofs.pairs.is_among.Statement.{statement}
 use Rattle.host.proofs.pairs.is_among.Tie as tie

@@ -1,7 +1,7 @@
 -- `host::pairs/is_distinct` meets its contract.
 use borrow.Author.Needs.{needs}
 use native.Mathlib.Omega.{arith}
-use Rattle.host.proofs.EntryWalk.{kind-within}
+use Rattle.host.specs.EntryWalk.{kind-within}
 use Rattle.host.proofs.PairSteps.{Parts, parting}
 use Rattle.host.proofs.pairs.is_distinct.Statement.{statement}
 use Rattle.host.proofs.pairs.is_distinct.Tie as tie

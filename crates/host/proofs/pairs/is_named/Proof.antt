@@ -1,6 +1,6 @@
 -- `host::pairs/is_named` meets its contract.
 use borrow.Author.Needs.{needs}
-use Rattle.host.proofs.EntryWalk.{naming}
+use Rattle.host.specs.EntryWalk.{naming}
 use Rattle.host.proofs.pairs.is_named.Statement.{statement}
 use Rattle.host.proofs.pairs.is_named.Tie as tie
 

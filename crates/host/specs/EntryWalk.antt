@@ -21,12 +21,12 @@ use Rattle.reader.specs.ValueLaws.{whole-inv, got-whole, value-got}
 use Rattle.host.specs.Host.{HostFn, hostFn, named, nobody}
 use Rattle.host.specs.Listed.{textAt}
 use Rattle.host.specs.Seek.{sameText, entryAt}
-use Rattle.host.proofs.Texts.{word-inv}
+use Rattle.host.specs.Texts.{word-inv}
 
 -- ── an entry ──
 
 -- its strings from at and p on, its kind at q
-record Entered (ws : List ℕ) (at : ℕ) (h : HostFn) (p q e : ℕ) : Type 0 where
+pub record Entered (ws : List ℕ) (at : ℕ) (h : HostFn) (p q e : ℕ) : Type 0 where
   pub owner : string ws at ≡ got (h .moduleName) p
   pub title : string ws p ≡ got (h .name) q
   pub kind-at : word ws q ≡ got (h .kind) e
@@ -36,7 +36,7 @@ code-inv : (ws : List ℕ) (n p : ℕ) {k q : ℕ} → codeBelow n ws p ≡ got 
 unfolding codeBelow
 code-inv ws n p e = then-inv (word ws p) _ e λ w p₁ e₁ e. chosen ws (ltb w n) (pure w) p₁ e λ t e. e₁ ∙ e
 
-entered : {C : Type 0} (ws : List ℕ) (at : ℕ) → Whole (hostFn ws at) → ((h : HostFn) (p q e : ℕ) → Entered ws at h p q e → C) → C
+pub entered : {C : Type 0} (ws : List ℕ) (at : ℕ) → Whole (hostFn ws at) → ((h : HostFn) (p q e : ℕ) → Entered ws at h p q e → C) → C
 unfolding hostFn
 entered ws at w f =
     whole-inv (hostFn ws at) w λ h e g.
