@@ -6,3 +6,4 @@ pub mod EdgedLaws
 pub mod OrderLaws
 pub mod RangeOrder
 pub mod Bare
+pub mod SortedLaws

@@ -10,6 +10,7 @@ ghost use Rattle.reader.specs.Value.{Whole, valueOf};
 ghost use Rattle.sheet.specs.Decode.{paramList};
 ghost use Rattle.host.specs.Host.{hostFn};
 ghost use Rattle.host.specs.Listed.{foundAt, hostsIn};
+ghost use Rattle.host_index.specs.Sorted.{SortedHosts};
 ghost use Rattle.imports.specs.Imports.{hostEntry, importFaults, importsFaults};
 ghost use Rattle.code.specs.Callee.{importAt};
 ghost use Rattle.layout.specs.Opened.{moduleIn};
@@ -25,7 +26,7 @@ use error::Verdict;
 use error::in_module;
 use error::string_in;
 use host::Found;
-use host::lookup;
+use host_index::lookup;
 use list_rules::check_params;
 use opening::Opened;
 use opening::import_at;
@@ -104,18 +105,26 @@ fn check_head(sheet: &[u8], work: &[u32], o: Opened, i: u32) -> Verdict
 }
 
 // The host function with the module and name of import i.
-fn find_host(sheet: &[u8], work: &[u32], o: Opened, hosts: &[u8], n: usize, i: u32) -> Found
+fn find_host(
+    sheet: &[u8],
+    work: &[u32],
+    o: Opened,
+    hosts: &[u8],
+    n: usize,
+    index: &[u32],
+    i: u32,
+) -> Found
     requires { ⌜ Ready (firstWords (now sheet) (o .layout .words)) (now work) o ⌝ }
     requires { ⌜ i < o .counts .imports ⌝ }
     requires { ⌜ HeadHolds (moduleIn (firstWords (now sheet) (o .layout .words))) (importAt (moduleIn (firstWords (now sheet) (o .layout .words))) i) ⌝ }
-    requires { ⌜ Whole (listOf hostFn (firstWords (now hosts) n) 2) ⌝ }
+    requires { ⌜ SortedHosts (firstWords (now hosts) n) (now index) ⌝ }
     ensures { λ r. ⌜ r ≡ foundAt (hostsIn (firstWords (now (hosts .entry)) n)) (hostEntry (moduleIn (firstWords (now (sheet .entry)) (o .layout .words))) (hostsIn (firstWords (now (hosts .entry)) n)) (importAt (moduleIn (firstWords (now (sheet .entry)) (o .layout .words))) i)) ⌝ }
 {
     let a = import_module(sheet, work, o, i);
     let b = import_name(sheet, work, o, i);
     let p = string_at(work, o, a);
     let q = string_at(work, o, b);
-    lookup(hosts, n, sheet, o.layout.words, p, q)
+    lookup(hosts, n, index, sheet, o.layout.words, p, q)
 }
 
 fn missing(sheet: &[u8], work: &[u32], o: Opened, i: u32) -> LoadErrorKind
@@ -196,15 +205,23 @@ fn link_found(sheet: &[u8], work: &mut [u32], o: Opened, i: u32, k: u32, schedul
 }
 
 // Import i whose signature and names are there.
-fn link_named(sheet: &[u8], work: &mut [u32], o: Opened, hosts: &[u8], n: usize, i: u32) -> Linked
+fn link_named(
+    sheet: &[u8],
+    work: &mut [u32],
+    o: Opened,
+    hosts: &[u8],
+    n: usize,
+    index: &[u32],
+    i: u32,
+) -> Linked
     requires { ⌜ Ready (firstWords (now sheet) (o .layout .words)) (now work) o ⌝ }
     requires { ⌜ i < o .counts .imports ⌝ }
     requires { ⌜ HeadHolds (moduleIn (firstWords (now sheet) (o .layout .words))) (importAt (moduleIn (firstWords (now sheet) (o .layout .words))) i) ⌝ }
-    requires { ⌜ Whole (listOf hostFn (firstWords (now hosts) n) 2) ⌝ }
+    requires { ⌜ SortedHosts (firstWords (now hosts) n) (now index) ⌝ }
     ensures { λ r. ⌜ r ≡ linkedOf (hostFaults (hostsIn (firstWords (now (hosts .entry)) n)) (moduleIn (firstWords (now (sheet .entry)) (o .layout .words))) (importAt (moduleIn (firstWords (now (sheet .entry)) (o .layout .words))) i)) (hostEntry (moduleIn (firstWords (now (sheet .entry)) (o .layout .words))) (hostsIn (firstWords (now (hosts .entry)) n)) (importAt (moduleIn (firstWords (now (sheet .entry)) (o .layout .words))) i)) ⌝ }
     ensures { λ r. ⌜ now (work .exit) ≡ now (work .entry) ⌝ }
 {
-    match find_host(sheet, work, o, hosts, n, i) {
+    match find_host(sheet, work, o, hosts, n, index, i) {
         Found::At(k, scheduler) => {
             let entry = entry_word(hosts, n, k);
             link_found(sheet, work, o, i, entry, scheduler)
@@ -214,15 +231,23 @@ fn link_named(sheet: &[u8], work: &mut [u32], o: Opened, hosts: &[u8], n: usize,
 }
 
 // Signature, names, lookup, scheduler, parameter list.
-fn link_import(sheet: &[u8], work: &mut [u32], o: Opened, hosts: &[u8], n: usize, i: u32) -> Linked
+fn link_import(
+    sheet: &[u8],
+    work: &mut [u32],
+    o: Opened,
+    hosts: &[u8],
+    n: usize,
+    index: &[u32],
+    i: u32,
+) -> Linked
     requires { ⌜ Ready (firstWords (now sheet) (o .layout .words)) (now work) o ⌝ }
     requires { ⌜ i < o .counts .imports ⌝ }
-    requires { ⌜ Whole (listOf hostFn (firstWords (now hosts) n) 2) ⌝ }
+    requires { ⌜ SortedHosts (firstWords (now hosts) n) (now index) ⌝ }
     ensures { λ r. ⌜ r ≡ linkedOf (importFaults (hostsIn (firstWords (now (hosts .entry)) n)) (moduleIn (firstWords (now (sheet .entry)) (o .layout .words))) (importAt (moduleIn (firstWords (now (sheet .entry)) (o .layout .words))) i)) (hostEntry (moduleIn (firstWords (now (sheet .entry)) (o .layout .words))) (hostsIn (firstWords (now (hosts .entry)) n)) (importAt (moduleIn (firstWords (now (sheet .entry)) (o .layout .words))) i)) ⌝ }
     ensures { λ r. ⌜ now (work .exit) ≡ now (work .entry) ⌝ }
 {
     match check_head(sheet, work, o, i) {
-        Verdict::Holds => link_named(sheet, work, o, hosts, n, i),
+        Verdict::Holds => link_named(sheet, work, o, hosts, n, index, i),
         Verdict::Broken(b) => Linked::Broken(b),
     }
 }
@@ -235,16 +260,23 @@ fn put_entry(work: &mut [u32], o: Opened, i: u32, k: u32)
 }
 
 // Imports in order; the place of each is stored in the free words.
-fn link_each(sheet: &[u8], work: &mut [u32], o: Opened, hosts: &[u8], n: usize) -> Verdict
+fn link_each(
+    sheet: &[u8],
+    work: &mut [u32],
+    o: Opened,
+    hosts: &[u8],
+    n: usize,
+    index: &[u32],
+) -> Verdict
     requires { ⌜ Ready (firstWords (now sheet) (o .layout .words)) (now work) o ⌝ }
-    requires { ⌜ Whole (listOf hostFn (firstWords (now hosts) n) 2) ⌝ }
+    requires { ⌜ SortedHosts (firstWords (now hosts) n) (now index) ⌝ }
     ensures { λ r. ⌜ r ≡ verdictOf (brokenImports (hostsIn (firstWords (now (hosts .entry)) n)) (moduleIn (firstWords (now (sheet .entry)) (o .layout .words)))) ⌝ }
     ensures { λ r. ⌜ Kept o (now (work .entry)) (now (work .exit)) ⌝ }
     ensures { λ r. ⌜ EntriesIf r (hostsIn (firstWords (now (hosts .entry)) n)) (firstWords (now (sheet .entry)) (o .layout .words)) (now (work .exit)) o ⌝ }
 {
     let mut i = 0;
     while i < o.counts.imports {
-        match link_import(sheet, work, o, hosts, n, i) {
+        match link_import(sheet, work, o, hosts, n, index, i) {
             Linked::Entry(k) => {
                 put_entry(work, o, i, k);
             }
@@ -257,12 +289,19 @@ fn link_each(sheet: &[u8], work: &mut [u32], o: Opened, hosts: &[u8], n: usize) 
     Verdict::Holds
 }
 
-pub fn check_imports(sheet: &[u8], work: &mut [u32], o: Opened, hosts: &[u8], n: usize) -> Judged
+pub fn check_imports(
+    sheet: &[u8],
+    work: &mut [u32],
+    o: Opened,
+    hosts: &[u8],
+    n: usize,
+    index: &[u32],
+) -> Judged
     requires { ⌜ Ready (firstWords (now sheet) (o .layout .words)) (now work) o ⌝ }
-    requires { ⌜ Whole (listOf hostFn (firstWords (now hosts) n) 2) ⌝ }
+    requires { ⌜ SortedHosts (firstWords (now hosts) n) (now index) ⌝ }
     ensures { λ r. ⌜ r ≡ judgedOf (importsFaults (hostsIn (firstWords (now (hosts .entry)) n)) (moduleIn (firstWords (now (sheet .entry)) (o .layout .words)))) ⌝ }
     ensures { λ r. ⌜ Kept o (now (work .entry)) (now (work .exit)) ⌝ }
     ensures { λ r. ⌜ LinkedIf r (hostsIn (firstWords (now (hosts .entry)) n)) (firstWords (now (sheet .entry)) (o .layout .words)) (now (work .exit)) o ⌝ }
 {
-    in_module(link_each(sheet, work, o, hosts, n))
+    in_module(link_each(sheet, work, o, hosts, n, index))
 }

@@ -1,8 +1,11 @@
 // The tests before any rule, in their order: 1, 23, 24.
 ghost use mathlib.Core.Path.{_≡_};
 ghost use Rattle.layout.specs.Layout.{layout, checkedOf};
+ghost use lib.ListN.{length};
 ghost use Rattle.host.specs.Listed.{listedOf};
+ghost use Rattle.host_index.specs.Sorted.{Roomy};
 ghost use Rattle.inputs.specs.Inputs.{inputsOf, withHosts};
+ghost use Rattle.inputs.specs.Indexed.{IndexedIf};
 use error::LoadErrorKind;
 use host::Listed;
 use layout::Checked;
@@ -15,10 +18,12 @@ pub enum Inputs {
     Intact(Layout, usize),
 }
 
-fn check_with(hosts: &[u8], l: Layout, table: usize, work: usize) -> Inputs
+fn check_with(hosts: &[u8], l: Layout, table: usize, work: usize, index: &mut [u32]) -> Inputs
+    requires { ⌜ Roomy (now hosts) (length (now index)) ⌝ }
     ensures { λ r. ⌜ r ≡ withHosts l (listedOf (now (hosts .entry))) table work ⌝ }
+    ensures { λ r. ⌜ IndexedIf r (now (hosts .entry)) (now (index .exit)) ⌝ }
 {
-    match host::check_hosts(hosts) {
+    match host_index::check_hosts(hosts, index) {
         Listed::Broken => Inputs::Refused(LoadErrorKind::BadHostList),
         Listed::Intact(n) => {
             if is_long_enough(l.words, table, work) {
@@ -29,12 +34,20 @@ fn check_with(hosts: &[u8], l: Layout, table: usize, work: usize) -> Inputs
     }
 }
 
-// Sheet and host list as bytes, table and work by their lengths.
-pub fn check_inputs(sheet: &[u8], hosts: &[u8], table: usize, work: usize) -> Inputs
+// Sheet and host list as bytes, table and work by their lengths; the index of an intact host list is written.
+pub fn check_inputs(
+    sheet: &[u8],
+    hosts: &[u8],
+    table: usize,
+    work: usize,
+    index: &mut [u32],
+) -> Inputs
+    requires { ⌜ Roomy (now hosts) (length (now index)) ⌝ }
     ensures { λ r. ⌜ r ≡ inputsOf (checkedOf (layout (now (sheet .entry)))) (listedOf (now (hosts .entry))) table work ⌝ }
+    ensures { λ r. ⌜ IndexedIf r (now (hosts .entry)) (now (index .exit)) ⌝ }
 {
     match layout::check_sheet(sheet) {
         Checked::Broken => Inputs::Refused(LoadErrorKind::Decode),
-        Checked::Intact(l) => check_with(hosts, l, table, work),
+        Checked::Intact(l) => check_with(hosts, l, table, work, index),
     }
 }

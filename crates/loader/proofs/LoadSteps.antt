@@ -12,12 +12,11 @@ use Rattle.error.specs.declared.LoadErrorKind.{LoadErrorKind}
 use Rattle.error.specs.declared.Loaded.{Loaded}
 use Rattle.error.specs.declared.Loaded.the-variants.{Accepted, Refused}
 use Rattle.error.specs.Answer.{inModule}
-use Rattle.reader.specs.Reader.{listOf}
-use Rattle.reader.specs.Value.{Whole}
 use Rattle.sheet.specs.Module.{Module}
 use Rattle.sheet.specs.SheetLaws.{decode-length}
-use Rattle.host.specs.Host.{HostFn, hostFn}
+use Rattle.host.specs.Host.{HostFn}
 use Rattle.host.specs.Listed.{listedOf, hostsIn}
+use Rattle.host_index.specs.Sorted.{SortedHosts}
 use Rattle.layout.specs.declared.Layout.{Layout}
 use Rattle.layout.specs.Layout.{layout, checkedOf}
 use Rattle.layout.specs.LayoutLaws.{Located}
@@ -33,6 +32,7 @@ use Rattle.load.specs.LoadLaws.{opening-inv, linked-fits}
 use Rattle.inputs.specs.declared.Inputs.{Inputs}
 use Rattle.inputs.specs.declared.Inputs.the-variants as Inputs
 use Rattle.inputs.specs.Inputs.{inputsOf}
+use Rattle.inputs.specs.Indexed.{IndexedIf}
 use Rattle.inputs.specs.InputsLaws.{Admitted, inputs-refused, inputs-intact}
 use Rattle.rules.specs.Unlinked.{Zeroed}
 use Rattle.loader.specs.Linking.{Fits, answered, tableLeft}
@@ -69,11 +69,12 @@ fits sheet hosts work l n table h a =
           );
     }
 
-pub load-asked : (sheet hosts table : List ℕ) (work : ℕ) (l : Layout) (n : ℕ) {i : Inputs} → i ≡ Inputs.Intact l n → i ≡ inputsOf (checkedOf (layout sheet)) (listedOf hosts) (length table) work → all isByte sheet ≡ true →
-    Located (firstWords sheet (l .words)) (moduleIn (firstWords sheet (l .words))) l × ((l .words ≤ 520192) × ((64 + 8 * l .words ≤ work) × (Whole (listOf hostFn (firstWords hosts n) 2) × Fits (hostsIn (firstWords hosts n)) (moduleIn (firstWords sheet (l .words))) table)))
-load-asked sheet hosts table work l n h e b =
+pub load-asked : (sheet hosts table v : List ℕ) (work : ℕ) (l : Layout) (n : ℕ) {i : Inputs} → i ≡ Inputs.Intact l n → i ≡ inputsOf (checkedOf (layout sheet)) (listedOf hosts) (length table) work → IndexedIf i hosts v →
+    all isByte sheet ≡ true →
+    Located (firstWords sheet (l .words)) (moduleIn (firstWords sheet (l .words))) l × ((l .words ≤ 520192) × ((64 + 8 * l .words ≤ work) × (SortedHosts (firstWords hosts n) v × Fits (hostsIn (firstWords hosts n)) (moduleIn (firstWords sheet (l .words))) table)))
+load-asked sheet hosts table v work l n h e x b =
     let a = inputs-intact sheet hosts (length table) work e l n h in
-    (a .located, (a .few, (a .room, (a .listed, fits sheet hosts work l n table b a))))
+    (a .located, (a .few, (a .room, (x .indexed l n h, fits sheet hosts work l n table b a))))
 
 -- ── the three equations ──
 

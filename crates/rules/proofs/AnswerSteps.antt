@@ -13,11 +13,10 @@ use Rattle.error.specs.declared.Loaded.{Loaded}
 use Rattle.error.specs.declared.Loaded.the-variants.{Accepted, Refused}
 use Rattle.error.specs.Answer.{inModule, first}
 use Rattle.error.specs.Verdict.{judgedOf}
-use Rattle.reader.specs.Reader.{listOf}
-use Rattle.reader.specs.Value.{Whole}
 use Rattle.sheet.specs.Module.{Module}
-use Rattle.host.specs.Host.{HostFn, hostFn}
+use Rattle.host.specs.Host.{HostFn}
 use Rattle.host.specs.Listed.{listedOf, hostsIn}
+use Rattle.host_index.specs.Sorted.{SortedHosts}
 use Rattle.layout.specs.declared.Layout.{Layout}
 use Rattle.layout.specs.Layout.{layout, checkedOf}
 use Rattle.layout.specs.LayoutLaws.{Located}
@@ -31,6 +30,7 @@ use Rattle.load.specs.Load as load
 use Rattle.inputs.specs.declared.Inputs.{Inputs}
 use Rattle.inputs.specs.declared.Inputs.the-variants as Inputs
 use Rattle.inputs.specs.Inputs.{inputsOf}
+use Rattle.inputs.specs.Indexed.{IndexedIf}
 use Rattle.inputs.specs.InputsLaws.{Admitted, inputs-refused, inputs-intact}
 use Rattle.rules.specs.Unlinked.{unlinked, loadedOf, Zeroed}
 
@@ -66,9 +66,9 @@ first-unlinked l [] = refl
 first-unlinked l (f ∷ fs) = refl
 
 -- what is asked where the inputs are not refused
-pub judge-asked : (sheet hosts : List ℕ) (k : ℕ) (l : Layout) (n : ℕ) {i : Inputs} → i ≡ Inputs.Intact l n → i ≡ inputsOf (checkedOf (layout sheet)) (listedOf hosts) k k →
-    Located (firstWords sheet (l .words)) (moduleIn (firstWords sheet (l .words))) l × ((l .words ≤ 520192) × ((64 + 8 * l .words ≤ k) × Whole (listOf hostFn (firstWords hosts n) 2)))
-judge-asked sheet hosts k l n h e = let a = inputs-intact sheet hosts k k e l n h in (a .located, (a .few, (a .room, a .listed)))
+pub judge-asked : (sheet hosts v : List ℕ) (k : ℕ) (l : Layout) (n : ℕ) {i : Inputs} → i ≡ Inputs.Intact l n → i ≡ inputsOf (checkedOf (layout sheet)) (listedOf hosts) k k → IndexedIf i hosts v →
+    Located (firstWords sheet (l .words)) (moduleIn (firstWords sheet (l .words))) l × ((l .words ≤ 520192) × ((64 + 8 * l .words ≤ k) × SortedHosts (firstWords hosts n) v))
+judge-asked sheet hosts v k l n h e x = let a = inputs-intact sheet hosts k k e l n h in (a .located, (a .few, (a .room, x .indexed l n h)))
 
 module _ (sheet hosts work : List ℕ) {i : Inputs} (e : i ≡ inputsOf (checkedOf (layout sheet)) (listedOf hosts) (length work) (length work)) where
   pub judge-refused : (k : LoadErrorKind) {r : Loaded} → i ≡ Inputs.Refused k → r ≡ Refused (inModule k) → r ≡ unlinked (load sheet hosts (length work) (length work))

@@ -5,10 +5,9 @@ ghost use lib.ListN.{length};
 ghost use Rattle.blocks.specs.Frame.{firstWords};
 ghost use Rattle.error.specs.declared.Loaded.the-variants.{Refused};
 ghost use Rattle.error.specs.Answer.{inModule, first};
-ghost use Rattle.reader.specs.Reader.{listOf};
-ghost use Rattle.reader.specs.Value.{Whole};
-ghost use Rattle.host.specs.Host.{hostFn};
 ghost use Rattle.host.specs.Listed.{hostsIn};
+ghost use Rattle.host_index.specs.Sorted.{Roomy};
+ghost use Rattle.host_index.specs.Sorted.{SortedHosts};
 ghost use Rattle.layout.specs.LayoutLaws.{Located};
 ghost use Rattle.layout.specs.Opened.{moduleIn};
 ghost use Rattle.parents.specs.Parents.{mostOnChain};
@@ -47,18 +46,45 @@ pub fn refuse(k: LoadErrorKind) -> Loaded
 }
 
 // Work is zero after the rules.
-fn judge_intact(sheet: &[u8], l: Layout, hosts: &[u8], n: usize, work: &mut [u32]) -> Loaded
+fn judge_intact(
+    sheet: &[u8],
+    l: Layout,
+    hosts: &[u8],
+    n: usize,
+    index: &[u32],
+    work: &mut [u32],
+) -> Loaded
     requires { ⌜ Located (firstWords (now sheet) (l .words)) (moduleIn (firstWords (now sheet) (l .words))) l ⌝ }
     requires { ⌜ l .words ≤ 520192 ⌝ }
     requires { ⌜ 64 + 8 * l .words ≤ length (now work) ⌝ }
-    requires { ⌜ Whole (listOf hostFn (firstWords (now hosts) n) 2) ⌝ }
+    requires { ⌜ SortedHosts (firstWords (now hosts) n) (now index) ⌝ }
     ensures { λ r. ⌜ r ≡ first 0 (moduleFaults mostOnChain (hostsIn (firstWords (now (hosts .entry)) n)) (moduleIn (firstWords (now (sheet .entry)) (l .words)))) ⌝ }
     ensures { λ r. ⌜ Zeroed (now (work .entry)) (now (work .exit)) ⌝ }
 {
     let o = open_sheet(sheet, l, work);
-    let j = check_module(sheet, work, o, hosts, n);
+    let j = check_module(sheet, work, o, hosts, n, index);
     fill(work, 0, work.len(), 0);
     answer(j)
+}
+
+// As judge, with words for the index of the host list.
+fn judge_with(sheet: &[u8], hosts: &[u8], work: &mut [u32], index: &mut [u32]) -> Loaded
+    requires { ⌜ Roomy (now hosts) (length (now index)) ⌝ }
+    ensures { λ r. ⌜ r ≡ unlinked (load (now (sheet .entry)) (now (hosts .entry)) (length (now (work .entry))) (length (now (work .entry)))) ⌝ }
+    ensures { λ r. ⌜ now (work .exit) ≡ workAfter (now (sheet .entry)) (now (hosts .entry)) (now (work .entry)) (now (work .entry)) ⌝ }
+{
+    match check_inputs(sheet, hosts, work.len(), work.len(), index) {
+        Inputs::Refused(k) => refuse(k),
+        Inputs::Intact(l, n) => judge_intact(sheet, l, hosts, n, index, work),
+    }
+}
+
+// An index for any list.
+fn judge_in(sheet: &[u8], hosts: &[u8], work: &mut [u32], index: &mut [u32; 390142]) -> Loaded
+    ensures { λ r. ⌜ r ≡ unlinked (load (now (sheet .entry)) (now (hosts .entry)) (length (now (work .entry))) (length (now (work .entry)))) ⌝ }
+    ensures { λ r. ⌜ now (work .exit) ≡ workAfter (now (sheet .entry)) (now (hosts .entry)) (now (work .entry)) (now (work .entry)) ⌝ }
+{
+    judge_with(sheet, hosts, work, index)
 }
 
 // The answer of load to any sheet and host list, with no table: as if table and work were of one length.
@@ -66,8 +92,6 @@ pub fn judge(sheet: &[u8], hosts: &[u8], work: &mut [u32]) -> Loaded
     ensures { λ r. ⌜ r ≡ unlinked (load (now (sheet .entry)) (now (hosts .entry)) (length (now (work .entry))) (length (now (work .entry)))) ⌝ }
     ensures { λ r. ⌜ now (work .exit) ≡ workAfter (now (sheet .entry)) (now (hosts .entry)) (now (work .entry)) (now (work .entry)) ⌝ }
 {
-    match check_inputs(sheet, hosts, work.len(), work.len()) {
-        Inputs::Refused(k) => refuse(k),
-        Inputs::Intact(l, n) => judge_intact(sheet, l, hosts, n, work),
-    }
+    let mut index = [0u32; 390142];
+    judge_in(sheet, hosts, work, &mut index)
 }

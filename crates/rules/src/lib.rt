@@ -4,10 +4,8 @@ ghost use mathlib.Core.List.{[]};
 ghost use Prim.Native.Nat.{_≤_};
 ghost use Rattle.blocks.specs.Frame.{firstWords};
 ghost use Rattle.error.specs.Verdict.{judgedOf};
-ghost use Rattle.reader.specs.Reader.{listOf};
-ghost use Rattle.reader.specs.Value.{Whole};
-ghost use Rattle.host.specs.Host.{hostFn};
 ghost use Rattle.host.specs.Listed.{hostsIn};
+ghost use Rattle.host_index.specs.Sorted.{SortedHosts};
 ghost use Rattle.layout.specs.Opened.{moduleIn};
 ghost use Rattle.opening.specs.Ready.{Ready, Kept};
 ghost use Rattle.types.specs.Types.{typesFaults};
@@ -55,15 +53,22 @@ fn check_front(sheet: &[u8], work: &mut [u32], o: Opened) -> Judged
 }
 
 // Imports with their places in the host list, globals, every function's record.
-fn check_records(sheet: &[u8], work: &mut [u32], o: Opened, hosts: &[u8], n: usize) -> Judged
+fn check_records(
+    sheet: &[u8],
+    work: &mut [u32],
+    o: Opened,
+    hosts: &[u8],
+    n: usize,
+    index: &[u32],
+) -> Judged
     requires { ⌜ Ready (firstWords (now sheet) (o .layout .words)) (now work) o ⌝ }
     requires { ⌜ typesFaults (moduleIn (firstWords (now sheet) (o .layout .words))) ≡ [] ⌝ }
-    requires { ⌜ Whole (listOf hostFn (firstWords (now hosts) n) 2) ⌝ }
+    requires { ⌜ SortedHosts (firstWords (now hosts) n) (now index) ⌝ }
     ensures { λ r. ⌜ r ≡ judgedOf (recordFaults (hostsIn (firstWords (now (hosts .entry)) n)) (moduleIn (firstWords (now (sheet .entry)) (o .layout .words)))) ⌝ }
     ensures { λ r. ⌜ Kept o (now (work .entry)) (now (work .exit)) ⌝ }
     ensures { λ r. ⌜ LinkedIf r (hostsIn (firstWords (now (hosts .entry)) n)) (firstWords (now (sheet .entry)) (o .layout .words)) (now (work .exit)) o ⌝ }
 {
-    match check_imports(sheet, work, o, hosts, n) {
+    match check_imports(sheet, work, o, hosts, n, index) {
         Judged::Passed => {}
         Judged::Refused(e) => {
             return Judged::Refused(e);
@@ -117,10 +122,17 @@ fn check_bodies(sheet: &[u8], work: &mut [u32], o: Opened) -> Judged
 }
 
 // All rules; where they hold, work has the place of each import in the host list.
-pub fn check_module(sheet: &[u8], work: &mut [u32], o: Opened, hosts: &[u8], n: usize) -> Judged
+pub fn check_module(
+    sheet: &[u8],
+    work: &mut [u32],
+    o: Opened,
+    hosts: &[u8],
+    n: usize,
+    index: &[u32],
+) -> Judged
     requires { ⌜ Ready (firstWords (now sheet) (o .layout .words)) (now work) o ⌝ }
     requires { ⌜ o .layout .words ≤ 520192 ⌝ }
-    requires { ⌜ Whole (listOf hostFn (firstWords (now hosts) n) 2) ⌝ }
+    requires { ⌜ SortedHosts (firstWords (now hosts) n) (now index) ⌝ }
     ensures { λ r. ⌜ r ≡ judgedOf (moduleFaults mostOnChain (hostsIn (firstWords (now (hosts .entry)) n)) (moduleIn (firstWords (now (sheet .entry)) (o .layout .words)))) ⌝ }
     ensures { λ r. ⌜ Ready (firstWords (now (sheet .entry)) (o .layout .words)) (now (work .exit)) o ⌝ }
     ensures { λ r. ⌜ LinkedIf r (hostsIn (firstWords (now (hosts .entry)) n)) (firstWords (now (sheet .entry)) (o .layout .words)) (now (work .exit)) o ⌝ }
@@ -131,7 +143,7 @@ pub fn check_module(sheet: &[u8], work: &mut [u32], o: Opened, hosts: &[u8], n: 
             return Judged::Refused(e);
         }
     }
-    match check_records(sheet, work, o, hosts, n) {
+    match check_records(sheet, work, o, hosts, n, index) {
         Judged::Passed => {}
         Judged::Refused(e) => {
             return Judged::Refused(e);

@@ -14,7 +14,7 @@ same-length : tie.Need-same-length
 same-length c = search needs
 
 returns : tie.Need-returns
-returns c = search (needs, imports-judged, imports-linked)
+returns c = (search (needs, imports-judged), (search needs, search (needs, imports-linked)))
 
 pub check-imports-spec : {M : Type 1} → statement M
 check-imports-spec = tie.close (tie.spec link-each-requires in-module-requires same-length returns)

@@ -1,4 +1,5 @@
 -- `import_rules::find_host` meets its contract.
+use Rattle.host_index.specs.SortedLaws.{list-whole}
 use borrow.Author.Needs.{needs}
 use Rattle.import_rules.proofs.RuleSteps.{module-room, name-room, module-whole, name-whole, host-found}
 use Rattle.import_rules.proofs.find_host.Statement.{statement}
@@ -17,7 +18,7 @@ string-at-requires-2 : tie.Need-string-at-requires-2
 string-at-requires-2 c κs = search needs
 
 lookup-requires : tie.Need-lookup-requires
-lookup-requires c κs = search (needs, module-room, name-room, module-whole, name-whole, host-found)
+lookup-requires c κs = (search (needs, list-whole), (search needs, (search (needs, module-room, name-room, module-whole), search (needs, module-room, name-room, name-whole))))
 
 returns : tie.Need-returns
 returns c = search (needs, module-room, name-room, module-whole, name-whole, host-found)

@@ -9,10 +9,10 @@ use Rattle.import_rules.proofs.link_each.Statement.{statement}
 use Rattle.import_rules.proofs.link_each.Tie as tie
 
 abbrev Inv-loop : tie.InvT-loop
-Inv-loop sheet work₀ o hosts n i₀ work i = Linking (hostsIn (firstWords hosts n)) (firstWords sheet (o .layout .words)) work₀ o work i
+Inv-loop sheet work₀ o hosts n index i₀ work i = Linking (hostsIn (firstWords hosts n)) (firstWords sheet (o .layout .words)) work₀ o work i
 
 abbrev μ-loop : tie.MeasureT-loop
-μ-loop sheet work₀ o hosts n i₀ work i = o .counts .imports - i
+μ-loop sheet work₀ o hosts n index i₀ work i = o .counts .imports - i
 
 loop-holds : tie.Need-loop-holds Inv-loop μ-loop
 loop-holds c = search (needs, linkings)
@@ -33,7 +33,7 @@ same-length : tie.Need-same-length Inv-loop μ-loop
 same-length c = search (needs, linkings)
 
 returns : tie.Need-returns Inv-loop μ-loop
-returns c = search (needs, linkings)
+returns c = (search (needs, linkings), (search (needs, linkings), search (needs, linkings)))
 
 add-i : tie.Need-add-i Inv-loop μ-loop
 add-i c = omega (arith, c .before .before .before .before .before .before .before .before .before .before .before .before .struct-known .given)

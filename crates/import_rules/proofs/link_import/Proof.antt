@@ -12,7 +12,7 @@ enum-told : tie.Need-enum-told
 enum-told c = search needs
 
 link-named-requires : tie.Need-link-named-requires
-link-named-requires c κs = (c .before .before .before .before .before .before .before .before .pre .0, (c .before .before .before .before .before .before .before .before .pre .1 .0, (search (needs, head-holds), c .before .before .before .before .before .before .before .before .pre .1 .1)))
+link-named-requires c κs = (c .before .before .before .before .before .before .before .before .before .pre .0, (c .before .before .before .before .before .before .before .before .before .pre .1 .0, (search (needs, head-holds), c .before .before .before .before .before .before .before .before .before .pre .1 .1)))
 
 enum-known-b : tie.Need-enum-known-b
 enum-known-b c = search needs

@@ -12,10 +12,10 @@ enum-told : tie.Need-enum-told
 enum-told c = search needs
 
 write-table-requires : tie.Need-write-table-requires
-write-table-requires c κs = (c .before .before .before .before .before .before .check-module .ensures .1 .0, (c .before .before .before .before .before .before .before .before .before .before .before .before .pre .1 .0, (clear _ _ _ _ (c .before .before .enum-told .given .1) (c .before .before .before .before .before .before .check-module .ensures .0) (c .before .before .before .before .before .before .check-module .ensures .1 .0) (c .before .before .before .before .before .before .check-module .ensures .1 .1) (c .before .before .before .before .before .before .before .before .before .before .before .before .pre .1 .0), (table-room _ _ _ _ (c .before .before .enum-told .given .1) (c .before .before .before .before .before .before .check-module .ensures .0) (c .before .before .before .before .before .before .check-module .ensures .1 .0) (c .before .before .before .before .before .before .check-module .ensures .1 .1) (c .before .before .before .before .before .before .before .before .before .before .before .before .args .table .now) (c .before .before .before .before .before .before .before .before .before .before .before .before .pre .1 .1 .1), table-small _ _ _ _ (c .before .before .enum-told .given .1) (c .before .before .before .before .before .before .check-module .ensures .0) (c .before .before .before .before .before .before .check-module .ensures .1 .0) (c .before .before .before .before .before .before .check-module .ensures .1 .1) (c .before .before .before .before .before .before .before .before .before .before .before .before .args .table .now) (c .before .before .before .before .before .before .before .before .before .before .before .before .pre .1 .1 .1)))))
+write-table-requires c κs = (c .before .before .before .before .before .before .check-module .ensures .1 .0, (c .before .before .before .before .before .before .before .before .before .before .before .before .before .pre .1 .0, (clear _ _ _ _ (c .before .before .enum-told .given .1) (c .before .before .before .before .before .before .check-module .ensures .0) (c .before .before .before .before .before .before .check-module .ensures .1 .0) (c .before .before .before .before .before .before .check-module .ensures .1 .1) (c .before .before .before .before .before .before .before .before .before .before .before .before .before .pre .1 .0), (table-room _ _ _ _ (c .before .before .enum-told .given .1) (c .before .before .before .before .before .before .check-module .ensures .0) (c .before .before .before .before .before .before .check-module .ensures .1 .0) (c .before .before .before .before .before .before .check-module .ensures .1 .1) (c .before .before .before .before .before .before .before .before .before .before .before .before .before .args .table .now) (c .before .before .before .before .before .before .before .before .before .before .before .before .before .pre .1 .1 .1), table-small _ _ _ _ (c .before .before .enum-told .given .1) (c .before .before .before .before .before .before .check-module .ensures .0) (c .before .before .before .before .before .before .check-module .ensures .1 .0) (c .before .before .before .before .before .before .check-module .ensures .1 .1) (c .before .before .before .before .before .before .before .before .before .before .before .before .before .args .table .now) (c .before .before .before .before .before .before .before .before .before .before .before .before .before .pre .1 .1 .1)))))
 
-cast-t17 : tie.Need-cast-t17
-cast-t17 c = omega (arith, end-small _ _ _ _ (c .before .before .before .before .before .before .before .enum-told .given .1) (c .before .before .before .before .before .before .before .before .before .before .before .check-module .ensures .0) (c .before .before .before .before .before .before .before .before .before .before .before .check-module .ensures .1 .0) (c .before .before .before .before .before .before .before .before .before .before .before .check-module .ensures .1 .1) (c .before .before .before .before .before .before .before .before .before .before .before .before .before .before .before .before .before .args .table .now) (c .before .before .before .before .before .before .before .before .before .before .before .before .before .before .before .before .before .pre .1 .1 .1) (c .before .before .before .before .write-table .ensures .1))
+cast-t18 : tie.Need-cast-t18
+cast-t18 c = omega (arith, end-small _ _ _ _ (c .before .before .before .before .before .before .before .enum-told .given .1) (c .before .before .before .before .before .before .before .before .before .before .before .check-module .ensures .0) (c .before .before .before .before .before .before .before .before .before .before .before .check-module .ensures .1 .0) (c .before .before .before .before .before .before .before .before .before .before .before .check-module .ensures .1 .1) (c .before .before .before .before .before .before .before .before .before .before .before .before .before .before .before .before .before .before .args .table .now) (c .before .before .before .before .before .before .before .before .before .before .before .before .before .before .before .before .before .before .pre .1 .1 .1) (c .before .before .before .before .write-table .ensures .1))
 
 enum-known-e : tie.Need-enum-known-e
 enum-known-e c = search needs
@@ -27,7 +27,7 @@ same-length-2 : tie.Need-same-length-2
 same-length-2 c = search needs
 
 returns : tie.Need-returns
-returns c = (answer-passed _ _ _ _ (c .before .before .before .before .before .before .before .enum-told .given .1) (c .before .before .before .before .before .before .before .before .before .before .before .check-module .ensures .0) (c .before .before .before .before .before .before .before .before .before .before .before .check-module .ensures .1 .0) (c .before .before .before .before .before .before .before .before .before .before .before .check-module .ensures .1 .1) (c .before .before .before .before .before .before .before .before .before .before .before .before .before .before .before .before .before .args .table .now) (c .before .before .before .before .before .before .before .before .before .before .before .before .before .before .before .before .before .pre .1 .1 .1) (c .before .before .before .before .write-table .ensures .1), table-passed _ _ _ _ (c .before .before .before .before .before .before .before .enum-told .given .1) (c .before .before .before .before .before .before .before .before .before .before .before .check-module .ensures .0) (c .before .before .before .before .before .before .before .before .before .before .before .check-module .ensures .1 .0) (c .before .before .before .before .before .before .before .before .before .before .before .check-module .ensures .1 .1) (c .before .before .before .before .before .before .before .before .before .before .before .before .before .before .before .before .before .args .table .now) (c .before .before .before .before .before .before .before .before .before .before .before .before .before .before .before .before .before .pre .1 .1 .1) (c .before .before .before .before .write-table .ensures .0))
+returns c = (answer-passed _ _ _ _ (c .before .before .before .before .before .before .before .enum-told .given .1) (c .before .before .before .before .before .before .before .before .before .before .before .check-module .ensures .0) (c .before .before .before .before .before .before .before .before .before .before .before .check-module .ensures .1 .0) (c .before .before .before .before .before .before .before .before .before .before .before .check-module .ensures .1 .1) (c .before .before .before .before .before .before .before .before .before .before .before .before .before .before .before .before .before .before .args .table .now) (c .before .before .before .before .before .before .before .before .before .before .before .before .before .before .before .before .before .before .pre .1 .1 .1) (c .before .before .before .before .write-table .ensures .1), table-passed _ _ _ _ (c .before .before .before .before .before .before .before .enum-told .given .1) (c .before .before .before .before .before .before .before .before .before .before .before .check-module .ensures .0) (c .before .before .before .before .before .before .before .before .before .before .before .check-module .ensures .1 .0) (c .before .before .before .before .before .before .before .before .before .before .before .check-module .ensures .1 .1) (c .before .before .before .before .before .before .before .before .before .before .before .before .before .before .before .before .before .before .args .table .now) (c .before .before .before .before .before .before .before .before .before .before .before .before .before .before .before .before .before .before .pre .1 .1 .1) (c .before .before .before .before .write-table .ensures .0))
 
 same-length-3 : tie.Need-same-length-3
 same-length-3 c = search needs
@@ -42,7 +42,7 @@ link-module-spec =
     check-module-requires
     enum-told
     write-table-requires
-    cast-t17
+    cast-t18
     enum-known-e
     same-length
     same-length-2

@@ -10,7 +10,7 @@ open-sheet-requires : tie.Need-open-sheet-requires
 open-sheet-requires c κs = search needs
 
 link-module-requires : tie.Need-link-module-requires
-link-module-requires c κs = (opened-ready _ _ _ _ (c .before .before .before .before .open-sheet .ensures), (opened-few _ _ _ _ (c .before .before .before .before .open-sheet .ensures) (c .before .before .before .before .before .before .before .before .before .before .pre .1 .0), (c .before .before .before .before .before .before .before .before .before .before .pre .1 .1 .1 .0, opened-fits _ _ _ _ (c .before .before .before .before .open-sheet .ensures) _ (c .before .before .before .before .before .before .before .before .before .before .args .table .now) (c .before .before .before .before .before .before .before .before .before .before .pre .1 .1 .1 .1))))
+link-module-requires c κs = (opened-ready _ _ _ _ (c .before .before .before .before .open-sheet .ensures), (opened-few _ _ _ _ (c .before .before .before .before .open-sheet .ensures) (c .before .before .before .before .before .before .before .before .before .before .before .pre .1 .0), (c .before .before .before .before .before .before .before .before .before .before .before .pre .1 .1 .1 .0, opened-fits _ _ _ _ (c .before .before .before .before .open-sheet .ensures) _ (c .before .before .before .before .before .before .before .before .before .before .before .args .table .now) (c .before .before .before .before .before .before .before .before .before .before .before .pre .1 .1 .1 .1))))
 
 fill-requires : tie.Need-fill-requires
 fill-requires c κs = search needs
@@ -22,7 +22,7 @@ same-length-2 : tie.Need-same-length-2
 same-length-2 c = search needs
 
 returns : tie.Need-returns
-returns c = (opened-answer _ _ _ _ (c .before .before .before .before .before .before .before .before .before .before .before .before .before .open-sheet .ensures) _ (c .before .before .before .before .before .before .before .before .link-module .ensures .0), (opened-table _ _ _ _ (c .before .before .before .before .before .before .before .before .before .before .before .before .before .open-sheet .ensures) _ (c .before .before .before .before .before .before .before .before .before .before .before .before .before .before .before .before .before .before .before .args .table .now) (c .before .before .before .before .before .before .before .before .link-module .ensures .1), filled-zero _ _ _ _ (c .before .before .fill .ensures .0) (c .before .before .fill .ensures .1) (search needs) (search needs)))
+returns c = (opened-answer _ _ _ _ (c .before .before .before .before .before .before .before .before .before .before .before .before .before .open-sheet .ensures) _ (c .before .before .before .before .before .before .before .before .link-module .ensures .0), (opened-table _ _ _ _ (c .before .before .before .before .before .before .before .before .before .before .before .before .before .open-sheet .ensures) _ (c .before .before .before .before .before .before .before .before .before .before .before .before .before .before .before .before .before .before .before .before .args .table .now) (c .before .before .before .before .before .before .before .before .link-module .ensures .1), filled-zero _ _ _ _ (c .before .before .fill .ensures .0) (c .before .before .fill .ensures .1) (search needs) (search needs)))
 
 pub load-intact-spec : {M : Type 1} → statement M
 load-intact-spec =

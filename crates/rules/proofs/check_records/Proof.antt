@@ -33,7 +33,7 @@ same-length-2 : tie.Need-same-length-2
 same-length-2 c = search (needs, record-order, ready-kept)
 
 returns-2 : tie.Need-returns-2
-returns-2 c = search (needs, record-order)
+returns-2 c = (search (needs, record-order), (search (needs, record-order), search (needs, record-order)))
 
 check-funcs-requires : tie.Need-check-funcs-requires
 check-funcs-requires c κs = search (needs, record-order, ready-kept)

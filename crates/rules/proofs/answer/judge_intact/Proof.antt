@@ -9,7 +9,7 @@ open-sheet-requires : tie.Need-open-sheet-requires
 open-sheet-requires c κs = search (needs, opened-ready, opened-few, opened-first, filled-zero)
 
 check-module-requires : tie.Need-check-module-requires
-check-module-requires c κs = (opened-ready _ _ _ _ (c .before .before .before .open-sheet .ensures), (opened-few _ _ _ _ (c .before .before .before .open-sheet .ensures) (c .before .before .before .before .before .before .before .before .pre .1 .0), c .before .before .before .before .before .before .before .before .pre .1 .1 .1))
+check-module-requires c κs = (opened-ready _ _ _ _ (c .before .before .before .open-sheet .ensures), (opened-few _ _ _ _ (c .before .before .before .open-sheet .ensures) (c .before .before .before .before .before .before .before .before .before .pre .1 .0), c .before .before .before .before .before .before .before .before .before .pre .1 .1 .1))
 
 fill-requires : tie.Need-fill-requires
 fill-requires c κs = search (needs, opened-ready, opened-few, opened-first, filled-zero)

@@ -1,0 +1,29 @@
+-- `loader::load_more` meets its contract.
+use mathlib.Core.Path.{refl}
+use borrow.Author.Needs.{needs}
+use native.Mathlib.Omega.{arith}
+use Rattle.host_index.specs.SortedLaws.{roomy-few}
+use Rattle.loader.proofs.load_more.Statement.{statement}
+use Rattle.loader.proofs.load_more.Tie as tie
+use Rattle.loader.proofs.load_more.Reads as reads
+use Rattle.loader.proofs.load_more.Lts as lts
+use Rattle.loader.proofs.load_with.Reads as load-with-reads
+
+-- src/lib.rt:126:5
+load-with-requires : tie.Need-load-with-requires
+load-with-requires c κs = roomy-few _ 16384 _ refl (c .before .before .before .before .before .before .before .pre) (omega (arith, c .before .before .before .before .before .before .before .good))
+
+-- src/lib.rt:114:1
+same-length : tie.Need-same-length
+same-length c = search needs
+
+-- src/lib.rt:114:1
+same-length-2 : tie.Need-same-length-2
+same-length-2 c = search needs
+
+-- src/lib.rt:114:1
+returns : tie.Need-returns
+returns c = search needs
+
+pub load-more-spec : {M : Type 1} → statement M
+load-more-spec = tie.close (tie.spec load-with-requires same-length same-length-2 returns)
