@@ -22,8 +22,8 @@ use Rattle.sheet.specs.Module.{opcode}
 use Rattle.sheet.specs.Decode.{instOf}
 use Rattle.code.specs.Opcodes.{row}
 use Rattle.code.specs.Code.{unreachable, terminates, lastPosition, lastFaults}
-use Rattle.opcodes.specs.declared.Inst.{Inst}
-use Rattle.opcodes.specs.Slots.{inst}
+use Rattle.insts.specs.declared.Inst.{Inst}
+use Rattle.insts.specs.Insts.{inst}
 use Rattle.frames.specs.declared.Frame.{Frame}
 use Rattle.frames.specs.Frames.{funcOf, Framed}
 use Rattle.code_rules.proofs.Sizes.{inst-takes, list-at, list-inside}

@@ -1,18 +1,12 @@
--- An instruction, a row's slots by place, and rules as code has them.
+-- A row's slots by place, and rules as code has them.
 use Prim.Native.Nat.{ℕ}
-use Rattle.sheet.specs.Module
 use Rattle.code.specs.declared.FieldKind.{FieldKind}
 use Rattle.code.specs.Opcodes.{Row}
 use Rattle.code.specs.Opcodes as definitions
-use Rattle.opcodes.specs.declared.Inst.{Inst}
 use Rattle.opcodes.specs.declared.Slot.{Slot}
 use Rattle.opcodes.specs.declared.Slot.the-variants.{A, B, W, C}
 use Rattle.opcodes.specs.declared.Rule.{Rule}
 use Rattle.opcodes.specs.declared.Rule.the-variants.{Free, NoPromote, PromoteToDyn, TailCall, TailCallIndirect, Call, CallIndirect, CallImport, CallShape, MakeClosure, OfKind, Concatenate, Slice, NotToRef, Catchable, WideBits}
-
--- an instruction as the definitions have it
-unfoldable pub inst : Inst → Module.Inst
-inst i = record { low = i .low; high = i .high }
 
 -- the place of a slot in a row of four
 unfoldable pub placeOf : Slot → ℕ

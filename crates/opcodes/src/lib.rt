@@ -1,14 +1,8 @@
-// What each operation code wants: the kinds of its slots, whether it terminates, its own rule; and an instruction's parts.
+// What each operation code wants: the kinds of its slots, whether it terminates, its own rule.
 ghost use mathlib.Core.Path.{_≡_};
 ghost use Prim.Native.Nat.{_<_};
-ghost use Rattle.blocks.specs.Frame.{firstWords};
-ghost use Rattle.reader.specs.Value.{Whole, valueOf};
-ghost use Rattle.sheet.specs.Module.{opcode, slotA, slotB, slotC, slotD, slotW};
-ghost use Rattle.sheet.specs.Decode.{instOf};
 ghost use Rattle.code.specs.Opcodes.{row};
-ghost use Rattle.code.specs.Code.{unreachable};
-ghost use Rattle.opcodes.specs.Slots.{placeOf, kindIn, ruleOf, inst};
-use blocks::word;
+ghost use Rattle.opcodes.specs.Slots.{placeOf, kindIn, ruleOf};
 use code::FieldKind;
 use code::FieldKind::Const;
 use code::FieldKind::Func;
@@ -23,12 +17,6 @@ use code::FieldKind::TypeRef;
 use code::FieldKind::Unused;
 use code::FieldKind::Upval;
 use error::TypeKind;
-
-// An instruction's two words.
-pub struct Inst {
-    pub low: u32,
-    pub high: u32,
-}
 
 // The slots that number something.
 pub enum Slot {
@@ -207,57 +195,4 @@ pub fn rule_of(code: u32) -> Rule
     ensures { λ r. ⌜ ruleOf r ≡ row code .rule ⌝ }
 {
     RULES[code as usize]
-}
-
-// The instruction at a position, with a listed code.
-pub fn read_inst(sheet: &[u8], n: usize, at: usize) -> Inst
-    requires { ⌜ Whole (instOf (firstWords (now sheet) n) at) ⌝ }
-    ensures { λ r. ⌜ inst r ≡ valueOf unreachable (instOf (firstWords (now (sheet .entry)) n) at) ⌝ }
-    ensures { λ r. ⌜ opcode (inst r) < 35 ⌝ }
-{
-    Inst {
-        low: word(sheet, at),
-        high: word(sheet, at + 1),
-    }
-}
-
-// Bits 0-7, 8-15 and 16-31 of the low word; 0-15, 16-31 and all of the high word.
-pub fn opcode(i: Inst) -> u32
-    ensures { λ r. ⌜ r ≡ opcode (inst i) ⌝ }
-{
-    i.low % 256
-}
-
-pub fn slot_d(i: Inst) -> u32
-    ensures { λ r. ⌜ r ≡ slotD (inst i) ⌝ }
-    ensures { λ r. ⌜ r < 256 ⌝ }
-{
-    i.low / 256 % 256
-}
-
-pub fn slot_a(i: Inst) -> u32
-    ensures { λ r. ⌜ r ≡ slotA (inst i) ⌝ }
-    ensures { λ r. ⌜ r < 65536 ⌝ }
-{
-    i.low / 65536
-}
-
-pub fn slot_b(i: Inst) -> u32
-    ensures { λ r. ⌜ r ≡ slotB (inst i) ⌝ }
-    ensures { λ r. ⌜ r < 65536 ⌝ }
-{
-    i.high % 65536
-}
-
-pub fn slot_c(i: Inst) -> u32
-    ensures { λ r. ⌜ r ≡ slotC (inst i) ⌝ }
-    ensures { λ r. ⌜ r < 65536 ⌝ }
-{
-    i.high / 65536
-}
-
-pub fn slot_w(i: Inst) -> u32
-    ensures { λ r. ⌜ r ≡ slotW (inst i) ⌝ }
-{
-    i.high
 }
