@@ -27,9 +27,9 @@ use opening::Opened;
 use param_registers::params_first;
 use signatures::check_signature;
 use signatures::params_at;
-use type_rules::check_values;
-use type_rules::numbers::check_strings;
-use type_rules::numbers::check_type_refs;
+use value_rules::check_values;
+use value_rules::numbers::check_strings;
+use value_rules::numbers::check_type_refs;
 
 // Register types, then their number.
 fn check_registers(sheet: &[u8], o: Opened, c: Frame) -> Verdict
