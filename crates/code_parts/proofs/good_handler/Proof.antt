@@ -1,9 +1,9 @@
--- `code_rules::good_handler` meets its contract.
+-- `code_parts::good_handler` meets its contract.
 use borrow.Author.Needs.{needs}
 use native.Mathlib.Omega.{arith}
-use Rattle.code_rules.proofs.HandlerSteps.{handler-within, handling}
-use Rattle.code_rules.proofs.good_handler.Statement.{statement}
-use Rattle.code_rules.proofs.good_handler.Tie as tie
+use Rattle.code_parts.proofs.HandlerSteps.{handler-within, handling}
+use Rattle.code_parts.proofs.good_handler.Statement.{statement}
+use Rattle.code_parts.proofs.good_handler.Tie as tie
 
 add-word : tie.Need-add-word
 add-word c = omega (arith, handler-within)

@@ -1,4 +1,4 @@
--- `code_rules::check_handlers` meets its contract.
+-- `code_parts::check_handlers` meets its contract.
 use borrow.Author.Needs.{needs}
 use native.Mathlib.Omega.{arith}
 use Rattle.blocks.specs.Frame.{firstWords}
@@ -6,9 +6,9 @@ use Rattle.sheet.specs.Decode.{handlerOf}
 use Rattle.code.specs.Code.{handlerFaults}
 use Rattle.judging.specs.Judging.{Judges}
 use Rattle.frames.specs.Frames.{funcOf}
-use Rattle.code_rules.proofs.HandlerSteps.{handlers-within, handlers-fit, handlers}
-use Rattle.code_rules.proofs.check_handlers.Statement.{statement}
-use Rattle.code_rules.proofs.check_handlers.Tie as tie
+use Rattle.code_parts.proofs.HandlerSteps.{handlers-within, handlers-fit, handlers}
+use Rattle.code_parts.proofs.check_handlers.Statement.{statement}
+use Rattle.code_parts.proofs.check_handlers.Tie as tie
 
 abbrev Inv-loop : tie.InvT-loop
 Inv-loop sheet o c left₀ p₀ left p = Judges handlerOf (handlerFaults (funcOf (firstWords sheet (o .layout .words)) c)) (firstWords sheet (o .layout .words)) (c .body .handlers) left p

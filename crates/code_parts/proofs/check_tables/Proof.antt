@@ -1,4 +1,4 @@
--- `code_rules::check_tables` meets its contract.
+-- `code_parts::check_tables` meets its contract.
 use borrow.Author.Needs.{needs}
 use native.Mathlib.Omega.{arith}
 use Rattle.blocks.specs.Frame.{firstWords}
@@ -6,9 +6,9 @@ use Rattle.sheet.specs.Decode.{switchOf}
 use Rattle.code.specs.Code.{tableFaults}
 use Rattle.judging.specs.Judging.{Judges}
 use Rattle.frames.specs.Frames.{funcOf}
-use Rattle.code_rules.proofs.TableSteps.{tables-within, tables-fit, tables}
-use Rattle.code_rules.proofs.check_tables.Statement.{statement}
-use Rattle.code_rules.proofs.check_tables.Tie as tie
+use Rattle.code_parts.proofs.TableSteps.{tables-within, tables-fit, tables}
+use Rattle.code_parts.proofs.check_tables.Statement.{statement}
+use Rattle.code_parts.proofs.check_tables.Tie as tie
 
 abbrev Inv-loop : tie.InvT-loop
 Inv-loop sheet o c left₀ p₀ left p = Judges switchOf (tableFaults (funcOf (firstWords sheet (o .layout .words)) c)) (firstWords sheet (o .layout .words)) (c .body .tables) left p

@@ -1,11 +1,11 @@
--- `code_rules::check_table` meets its contract.
+-- `code_parts::check_table` meets its contract.
 use borrow.Author.Needs.{needs}
 use native.Mathlib.Omega.{arith}
 use Rattle.blocks.specs.Frame.{firstWords}
 use Rattle.frames.specs.Frames.{funcOf}
-use Rattle.code_rules.proofs.TableSteps.{Targets, targets-fit, aiming, switch-within}
-use Rattle.code_rules.proofs.check_table.Statement.{statement}
-use Rattle.code_rules.proofs.check_table.Tie as tie
+use Rattle.code_parts.proofs.TableSteps.{Targets, targets-fit, aiming, switch-within}
+use Rattle.code_parts.proofs.check_table.Statement.{statement}
+use Rattle.code_parts.proofs.check_table.Tie as tie
 
 abbrev Inv-loop : tie.InvT-loop
 Inv-loop sheet o c at left₀ p₀ left p = Targets (firstWords sheet (o .layout .words)) (funcOf (firstWords sheet (o .layout .words)) c) at left p

@@ -1,8 +1,8 @@
--- `code_rules::check_target` meets its contract.
+-- `code_parts::check_target` meets its contract.
 use borrow.Author.Needs.{needs}
-use Rattle.code_rules.proofs.TableSteps.{target-judged}
-use Rattle.code_rules.proofs.check_target.Statement.{statement}
-use Rattle.code_rules.proofs.check_target.Tie as tie
+use Rattle.code_parts.proofs.TableSteps.{target-judged}
+use Rattle.code_parts.proofs.check_target.Statement.{statement}
+use Rattle.code_parts.proofs.check_target.Tie as tie
 
 word-requires : tie.Need-word-requires
 word-requires c κs = search needs

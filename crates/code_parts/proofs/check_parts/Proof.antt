@@ -1,8 +1,8 @@
--- `code_rules::check_parts` meets its contract.
+-- `code_parts::check_parts` meets its contract.
 use borrow.Author.Needs.{needs}
-use Rattle.code_rules.proofs.CodeSteps.{parting}
-use Rattle.code_rules.proofs.check_parts.Statement.{statement}
-use Rattle.code_rules.proofs.check_parts.Tie as tie
+use Rattle.code_parts.proofs.PartSteps.{parting}
+use Rattle.code_parts.proofs.check_parts.Statement.{statement}
+use Rattle.code_parts.proofs.check_parts.Tie as tie
 
 check-last-requires : tie.Need-check-last-requires
 check-last-requires c κs = search needs

@@ -30,8 +30,8 @@ use Rattle.judging.specs.Judging.{Judges, listFaults, judges-start, judges-end,
 use Rattle.bodies.specs.BodyLaws.{list-count}
 use Rattle.frames.specs.declared.Frame.{Frame}
 use Rattle.frames.specs.Frames.{funcOf, Framed}
-use Rattle.code_rules.specs.Sweep.{noHandler, handlersFaults}
-use Rattle.code_rules.proofs.Sizes.{value-takes, handler-takes, many-inside, list-at, list-inside}
+use Rattle.code_parts.specs.CodeParts.{noHandler, handlersFaults}
+use Rattle.code_parts.proofs.Sizes.{value-takes, handler-takes, many-inside, list-at, list-inside}
 
 -- ── a register ──
 

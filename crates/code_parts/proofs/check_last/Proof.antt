@@ -1,9 +1,9 @@
--- `code_rules::check_last` meets its contract.
+-- `code_parts::check_last` meets its contract.
 use borrow.Author.Needs.{needs}
 use native.Mathlib.Omega.{arith}
-use Rattle.code_rules.proofs.LastSteps.{code-inside, lasts}
-use Rattle.code_rules.proofs.check_last.Statement.{statement}
-use Rattle.code_rules.proofs.check_last.Tie as tie
+use Rattle.code_parts.proofs.LastSteps.{code-inside, lasts}
+use Rattle.code_parts.proofs.check_last.Statement.{statement}
+use Rattle.code_parts.proofs.check_last.Tie as tie
 
 in-function-requires : tie.Need-in-function-requires
 in-function-requires c κs = search needs

@@ -26,7 +26,7 @@ use Rattle.insts.specs.declared.Inst.{Inst}
 use Rattle.insts.specs.Insts.{inst}
 use Rattle.frames.specs.declared.Frame.{Frame}
 use Rattle.frames.specs.Frames.{funcOf, Framed}
-use Rattle.code_rules.proofs.Sizes.{inst-takes, list-at, list-inside}
+use Rattle.code_parts.proofs.Sizes.{inst-takes, list-at, list-inside}
 
 module _ (b : List ℕ) (n : ℕ) (c : Frame) (x : Framed (firstWords b n) c) where
   pub code-inside : c .body .code + 1 + 2 * c .code ≤ n

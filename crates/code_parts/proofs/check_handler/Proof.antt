@@ -1,9 +1,9 @@
--- `code_rules::check_handler` meets its contract.
+-- `code_parts::check_handler` meets its contract.
 use borrow.Author.Needs.{needs}
 use native.Mathlib.Omega.{arith}
-use Rattle.code_rules.proofs.HandlerSteps.{handler-within, handling}
-use Rattle.code_rules.proofs.check_handler.Statement.{statement}
-use Rattle.code_rules.proofs.check_handler.Tie as tie
+use Rattle.code_parts.proofs.HandlerSteps.{handler-within, handling}
+use Rattle.code_parts.proofs.check_handler.Statement.{statement}
+use Rattle.code_parts.proofs.check_handler.Tie as tie
 
 good-handler-requires : tie.Need-good-handler-requires
 good-handler-requires c κs = search needs

@@ -28,8 +28,8 @@ use Rattle.judging.specs.Judging.{Judges, listFaults, judges-start, judges-end,
 use Rattle.bodies.specs.BodyLaws.{list-count}
 use Rattle.frames.specs.declared.Frame.{Frame}
 use Rattle.frames.specs.Frames.{funcOf, Framed}
-use Rattle.code_rules.specs.Sweep.{noSwitch, tablesFaults}
-use Rattle.code_rules.proofs.Sizes.{word-takes, many-inside, many-takes, list-opened}
+use Rattle.code_parts.specs.CodeParts.{noSwitch, tablesFaults}
+use Rattle.code_parts.proofs.Sizes.{word-takes, many-inside, many-takes, list-opened}
 
 -- ── one table ──
 

@@ -1,9 +1,9 @@
--- `code_rules::dyn_register` meets its contract.
+-- `code_parts::dyn_register` meets its contract.
 use borrow.Author.Needs.{needs}
 use native.Mathlib.Omega.{arith}
-use Rattle.code_rules.proofs.HandlerSteps.{regs-inside, register-is}
-use Rattle.code_rules.proofs.dyn_register.Statement.{statement}
-use Rattle.code_rules.proofs.dyn_register.Tie as tie
+use Rattle.code_parts.proofs.HandlerSteps.{regs-inside, register-is}
+use Rattle.code_parts.proofs.dyn_register.Statement.{statement}
+use Rattle.code_parts.proofs.dyn_register.Tie as tie
 
 add-word : tie.Need-add-word
 add-word c = omega (arith, regs-inside)
