@@ -1,9 +1,9 @@
--- `type_section::write_global_references` meets its contract.
+-- `global_section::write_global_references` meets its contract.
 use borrow.Author.Needs.{needs}
 use native.Mathlib.Omega.{arith}
-use Rattle.type_section.proofs.GlobalSteps.{globals-in, global-present, references-room, references-written, references-place}
-use Rattle.type_section.proofs.write_global_references.Statement.{statement}
-use Rattle.type_section.proofs.write_global_references.Tie as tie
+use Rattle.global_section.proofs.GlobalSteps.{globals-in, global-present, references-room, references-written, references-place}
+use Rattle.global_section.proofs.write_global_references.Statement.{statement}
+use Rattle.global_section.proofs.write_global_references.Tie as tie
 
 add-write-references : tie.Need-add-write-references
 add-write-references c = omega (arith, globals-in _ _ (c .before .before .pre .0))

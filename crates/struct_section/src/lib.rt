@@ -11,7 +11,7 @@ ghost use Rattle.region.specs.Region.{Frame};
 ghost use Rattle.opening.specs.Ready.{Ready};
 ghost use Rattle.table.specs.Records.{structRecord};
 ghost use Rattle.writing.specs.Writing.{written};
-ghost use Rattle.type_section.specs.TypeParts.{Sound, structAt, fieldWords, nameWords};
+ghost use Rattle.struct_section.specs.StructParts.{Sound, structAt, fieldWords, nameWords};
 use blocks::word;
 use name_lists::write_field_names;
 use name_lists::write_method_names;

@@ -1,9 +1,9 @@
--- `type_section::write_globals` meets its contract.
+-- `global_section::write_globals` meets its contract.
 use borrow.Author.Needs.{needs}
 use native.Mathlib.Omega.{arith}
-use Rattle.type_section.proofs.GlobalSteps.{globals-in, global-types, globals-room, globals-written, globals-place}
-use Rattle.type_section.proofs.write_globals.Statement.{statement}
-use Rattle.type_section.proofs.write_globals.Tie as tie
+use Rattle.global_section.proofs.GlobalSteps.{globals-in, global-types, globals-room, globals-written, globals-place}
+use Rattle.global_section.proofs.write_globals.Statement.{statement}
+use Rattle.global_section.proofs.write_globals.Tie as tie
 
 add-write-values : tie.Need-add-write-values
 add-write-values c = omega (arith, globals-in _ _ (c .before .before .before .pre .0 .opens))

@@ -29,8 +29,8 @@ use Rattle.table.specs.Records.{lastSlot, references, canonWords, fieldNames, m
 use Rattle.value_lists.specs.Values.{valuesAt, Values, Present}
 use Rattle.value_lists.specs.ValuesLaws.{values-length, values-present, values-fields, fields-values}
 use Rattle.name_lists.specs.Names.{namedFields, fieldList, methodList, nameFaults, methodsFaults, field-names, method-names}
-use Rattle.type_section.specs.TypeParts.{Sound, structIn, structAt, fieldWords, nameWords}
-use Rattle.type_section.proofs.Joins.{Put, front-room, put-is, put-room, put-then}
+use Rattle.struct_section.specs.StructParts.{Sound, structIn, structAt, fieldWords, nameWords}
+use Rattle.struct_section.proofs.Joins.{Put, front-room, put-is, put-room, put-then}
 
 -- ── where its parts stand ──
 

@@ -1,10 +1,10 @@
--- `type_section::structs::write_fields` meets its contract.
+-- `struct_section::write_fields` meets its contract.
 use borrow.Author.Needs.{needs}
 use native.Mathlib.Omega.{arith}
-use Rattle.type_section.proofs.Joins.{put, put-one}
-use Rattle.type_section.proofs.StructSteps.{struct-in, field-types, field-present, parent-room, values-room, places-room, fields-put}
-use Rattle.type_section.proofs.structs.write_fields.Statement.{statement}
-use Rattle.type_section.proofs.structs.write_fields.Tie as tie
+use Rattle.struct_section.proofs.Joins.{put, put-one}
+use Rattle.struct_section.proofs.StructSteps.{struct-in, field-types, field-present, parent-room, values-room, places-room, fields-put}
+use Rattle.struct_section.proofs.write_fields.Statement.{statement}
+use Rattle.struct_section.proofs.write_fields.Tie as tie
 
 add-fields : tie.Need-add-fields
 add-fields c = omega (arith, struct-in _ _ _ (c .before .before .before .pre .1 .0))

@@ -1,9 +1,9 @@
--- `type_section::structs::write_struct` meets its contract.
+-- `struct_section::write_struct` meets its contract.
 use borrow.Author.Needs.{needs}
-use Rattle.type_section.proofs.Joins.{put}
-use Rattle.type_section.proofs.StructSteps.{fields-room, names-room, struct-put}
-use Rattle.type_section.proofs.structs.write_struct.Statement.{statement}
-use Rattle.type_section.proofs.structs.write_struct.Tie as tie
+use Rattle.struct_section.proofs.Joins.{put}
+use Rattle.struct_section.proofs.StructSteps.{fields-room, names-room, struct-put}
+use Rattle.struct_section.proofs.write_struct.Statement.{statement}
+use Rattle.struct_section.proofs.write_struct.Tie as tie
 
 write-fields-requires : tie.Need-write-fields-requires
 write-fields-requires c κs =

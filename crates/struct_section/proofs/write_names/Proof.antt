@@ -1,10 +1,10 @@
--- `type_section::structs::write_names` meets its contract.
+-- `struct_section::write_names` meets its contract.
 use borrow.Author.Needs.{needs}
 use native.Mathlib.Omega.{arith}
-use Rattle.type_section.proofs.Joins.{put, frame-both, ready-still}
-use Rattle.type_section.proofs.StructSteps.{struct-in, fields-whole, names-hold, methods-whole, methods-hold, field-names-room, method-names-room, names-put}
-use Rattle.type_section.proofs.structs.write_names.Statement.{statement}
-use Rattle.type_section.proofs.structs.write_names.Tie as tie
+use Rattle.struct_section.proofs.Joins.{put, frame-both, ready-still}
+use Rattle.struct_section.proofs.StructSteps.{struct-in, fields-whole, names-hold, methods-whole, methods-hold, field-names-room, method-names-room, names-put}
+use Rattle.struct_section.proofs.write_names.Statement.{statement}
+use Rattle.struct_section.proofs.write_names.Tie as tie
 
 add-fields : tie.Need-add-fields
 add-fields c = omega (arith, struct-in _ _ _ (c .before .before .before .pre .1 .0))
