@@ -1,0 +1,24 @@
+-- `opcodes::kind_number` meets its contract.
+use borrow.Author.Needs.{needs}
+use native.Mathlib.Omega.{arith}
+use Rattle.opcodes.proofs.Tables.{place-in, number-at}
+use Rattle.opcodes.proofs.kind_number.Statement.{statement}
+use Rattle.opcodes.proofs.kind_number.Tie as tie
+
+place-requires : tie.Need-place-requires
+place-requires c κs = search needs
+
+mul-result : tie.Need-mul-result
+mul-result c = search needs
+
+index-1-result : tie.Need-index-1-result
+index-1-result c = search needs
+
+index-2-result : tie.Need-index-2-result
+index-2-result c = search (needs, place-in)
+
+returns : tie.Need-returns
+returns c = number-at (c .before .before .args .code) (c .before .place .result) (c .before .before .args .slot) _ _ (search needs) (c .before .place .ensures)
+
+pub kind-number-spec : {M : Type 1} → statement M
+kind-number-spec = tie.close (tie.spec place-requires mul-result index-1-result index-2-result returns)
