@@ -1,9 +1,9 @@
--- `value_lists::type_ref_at` meets its contract.
+-- `number_lists::type_ref_at` meets its contract.
 use borrow.Author.Needs.{needs}
 use native.Mathlib.Omega.{arith}
-use Rattle.value_lists.proofs.NumberSteps.{number-in, ref-room, ref-canon}
-use Rattle.value_lists.proofs.type_ref_at.Statement.{statement}
-use Rattle.value_lists.proofs.type_ref_at.Tie as tie
+use Rattle.number_lists.proofs.NumberSteps.{number-in, ref-room, ref-canon}
+use Rattle.number_lists.proofs.type_ref_at.Statement.{statement}
+use Rattle.number_lists.proofs.type_ref_at.Tie as tie
 
 add-word : tie.Need-add-word
 add-word c = omega (arith, number-in _ _ _ (c .before .before .pre .1 .0) _ (c .before .before .pre .1 .1 .1))

@@ -1,13 +1,13 @@
--- `value_lists::write_names` meets its contract.
+-- `number_lists::write_names` meets its contract.
 use borrow.Author.Needs.{needs}
 use native.Mathlib.Omega.{arith}
 use Prim.Native.Nat.{_-_}
 use Rattle.blocks.specs.Frame.{firstWords}
 use Rattle.canon.specs.Canon.{canonString}
 use Rattle.layout.specs.Opened.{moduleIn}
-use Rattle.value_lists.proofs.NumberSteps.{Numbers, numbers-start, number-below, numbers-kept, number-place, numbers-next, numbers-end, numbers-after}
-use Rattle.value_lists.proofs.write_names.Statement.{statement}
-use Rattle.value_lists.proofs.write_names.Tie as tie
+use Rattle.number_lists.proofs.NumberSteps.{Numbers, numbers-start, number-below, numbers-kept, number-place, numbers-next, numbers-end, numbers-after}
+use Rattle.number_lists.proofs.write_names.Statement.{statement}
+use Rattle.number_lists.proofs.write_names.Tie as tie
 
 abbrev Inv-loop : tie.InvT-loop
 Inv-loop sheet work o names-at table₀ at count p₀ i₀ table p i = Numbers (canonString (moduleIn (firstWords sheet (o .layout .words)) .strings)) (firstWords sheet (o .layout .words)) names-at count table₀ p₀ i table p

@@ -1,13 +1,13 @@
--- `value_lists::write_type_refs` meets its contract.
+-- `number_lists::write_type_refs` meets its contract.
 use borrow.Author.Needs.{needs}
 use native.Mathlib.Omega.{arith}
 use Prim.Native.Nat.{_-_}
 use Rattle.blocks.specs.Frame.{firstWords}
 use Rattle.canon.specs.Canon.{canonType}
 use Rattle.layout.specs.Opened.{moduleIn}
-use Rattle.value_lists.proofs.NumberSteps.{Numbers, numbers-start, number-below, numbers-kept, number-place, numbers-next, numbers-end, numbers-after}
-use Rattle.value_lists.proofs.write_type_refs.Statement.{statement}
-use Rattle.value_lists.proofs.write_type_refs.Tie as tie
+use Rattle.number_lists.proofs.NumberSteps.{Numbers, numbers-start, number-below, numbers-kept, number-place, numbers-next, numbers-end, numbers-after}
+use Rattle.number_lists.proofs.write_type_refs.Statement.{statement}
+use Rattle.number_lists.proofs.write_type_refs.Tie as tie
 
 abbrev Inv-loop : tie.InvT-loop
 Inv-loop sheet work o refs-at table₀ at count p₀ i₀ table p i = Numbers (canonType (moduleIn (firstWords sheet (o .layout .words)) .types)) (firstWords sheet (o .layout .words)) refs-at count table₀ p₀ i table p
