@@ -12,9 +12,9 @@ ghost use Rattle.link.specs.Parts.{Clear, frontWords, backWords, FrontAt
 use func_section::write_funcs;
 use global_section::write_global_references;
 use global_section::write_globals;
+use hook_section::write_hooks;
 use opening::Opened;
 use plain_sections::write_canon;
-use plain_sections::write_hooks;
 use plain_sections::write_imports;
 use span_section::write_spans;
 use type_section::write_types;

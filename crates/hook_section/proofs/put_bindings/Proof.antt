@@ -1,11 +1,11 @@
--- `plain_sections::put_bindings` meets its contract.
+-- `hook_section::put_bindings` meets its contract.
 use borrow.Author.Needs.{needs}
 use native.Mathlib.Omega.{arith}
 use Rattle.blocks.specs.Frame.{firstWords}
 use Rattle.layout.specs.Opened.{moduleIn}
-use Rattle.plain_sections.proofs.BindSteps.{Binds, hooks-within, binds-start, binds-length, binds-room, binds-frame, binds-end, binds-at, binds-next}
-use Rattle.plain_sections.proofs.put_bindings.Statement.{statement}
-use Rattle.plain_sections.proofs.put_bindings.Tie as tie
+use Rattle.hook_section.proofs.BindSteps.{Binds, hooks-within, binds-start, binds-length, binds-room, binds-frame, binds-end, binds-at, binds-next}
+use Rattle.hook_section.proofs.put_bindings.Statement.{statement}
+use Rattle.hook_section.proofs.put_bindings.Tie as tie
 
 abbrev Inv-loop : tie.InvT-loop
 Inv-loop sheet o table₀ first from left₀ p₀ table left p = Binds sheet (o .layout .words) (moduleIn (firstWords sheet (o .layout .words)) .hooks) table₀ first left p table

@@ -1,9 +1,9 @@
--- `plain_sections::write_hooks` meets its contract.
+-- `hook_section::write_hooks` meets its contract.
 use borrow.Author.Needs.{needs}
 use native.Mathlib.Omega.{arith}
-use Rattle.plain_sections.proofs.BindSteps.{slots-room, zeros-room, hooks-written}
-use Rattle.plain_sections.proofs.write_hooks.Statement.{statement}
-use Rattle.plain_sections.proofs.write_hooks.Tie as tie
+use Rattle.hook_section.proofs.BindSteps.{slots-room, zeros-room, hooks-written}
+use Rattle.hook_section.proofs.write_hooks.Statement.{statement}
+use Rattle.hook_section.proofs.write_hooks.Tie as tie
 
 push-requires : tie.Need-push-requires
 push-requires c κs = omega (arith, c .before .before .before .pre .1 .1)

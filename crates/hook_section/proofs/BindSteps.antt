@@ -32,8 +32,9 @@ use Rattle.writing.specs.Writing.{written}
 use Rattle.writing.specs.WritingLaws.{written-length, written-by}
 use Rattle.table.specs.Records.{bindingWord, hookWord}
 use Rattle.table.specs.Table.{hookSection}
-use Rattle.plain_sections.specs.Sections.{bindingFits, BindingsFit, boundWord, BindingAt}
+use Rattle.plain_sections.specs.Sections.{bindingFits, BindingsFit}
+use Rattle.hook_section.specs.Bound.{boundWord, BindingAt}
 use Rattle.plain_sections.proofs.RowSteps.{counted-all}
 
 -- ── a binding that was read ──
 

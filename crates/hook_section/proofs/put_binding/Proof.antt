@@ -1,10 +1,10 @@
--- `plain_sections::put_binding` meets its contract.
+-- `hook_section::put_binding` meets its contract.
 use borrow.Author.Needs.{needs}
 use native.Mathlib.Omega.{arith}
 use mathlib.Core.Path.{_∙_}
-use Rattle.plain_sections.proofs.BindSteps.{bound-small, bound-put}
-use Rattle.plain_sections.proofs.put_binding.Statement.{statement}
-use Rattle.plain_sections.proofs.put_binding.Tie as tie
+use Rattle.hook_section.proofs.BindSteps.{bound-small, bound-put}
+use Rattle.hook_section.proofs.put_binding.Statement.{statement}
+use Rattle.hook_section.proofs.put_binding.Tie as tie
 
 word-requires : tie.Need-word-requires
 word-requires c κs = search needs
