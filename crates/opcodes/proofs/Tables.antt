@@ -5,9 +5,8 @@ use mathlib.Core.List.{List, [], _∷_, map}
 use mathlib.Core.Bool.{Bool}
 use native.Mathlib.Omega.{arith}
 use lib.ListN.{length, getD}
-use Rattle.lists.specs.ListLaws.{getD-other, map-at}
+use Rattle.lists.specs.ListLaws.{map-at}
 use Rattle.code.specs.declared.FieldKind.{FieldKind}
-use Rattle.code.specs.declared.FieldKind
 use Rattle.code.specs.declared.FieldKind.the-variants.{Unused}
 use Rattle.code.specs.Opcodes.{Row, step, rows, row}
 use Rattle.code.specs.Opcodes as definitions
@@ -15,7 +14,7 @@ use Rattle.opcodes.specs.declared.Slot.{Slot}
 use Rattle.opcodes.specs.declared.Slot.the-variants.{A, B, W, C}
 use Rattle.opcodes.specs.declared.Rule.{Rule}
 use Rattle.opcodes.specs.declared.Rule.the-variants.{Free, NoPromote, PromoteToDyn, TailCall, TailCallIndirect, Call, CallIndirect, CallImport, CallShape, MakeClosure, OfKind, Concatenate, Slice, NotToRef, Catchable, WideBits}
-use Rattle.opcodes.specs.Slots.{placeOf, kindIn, kinds, kindOf, numberOf, ruleOf}
+use Rattle.opcodes.specs.Slots.{placeOf, kindIn, ruleOf}
 
 other : Row
 other = step Unused Unused Unused Unused definitions.free
@@ -29,62 +28,23 @@ place-in C e = omega arith
 
 -- ── slots ──
 
-abbrev pub slotsOf : Row → List ℕ
-slotsOf r = numberOf (r .A) ∷ numberOf (r .B) ∷ numberOf (r .W) ∷ numberOf (r .C) ∷ []
+abbrev pub slotsOf : Row → List FieldKind
+slotsOf r = r .A ∷ r .B ∷ r .W ∷ r .C ∷ []
 
-abbrev pub fields : List (List ℕ)
+abbrev pub fields : List (List FieldKind)
 fields = map slotsOf rows
 
-slots-at : (r : Row) (slot : Slot) (e : ℕ) → getD (slotsOf r) (placeOf slot) e ≡ numberOf (kindIn r slot)
+slots-at : (r : Row) (slot : Slot) (e : FieldKind) → getD (slotsOf r) (placeOf slot) e ≡ kindIn r slot
 unfolding placeOf kindIn
 slots-at r A e = refl
 slots-at r B e = refl
 slots-at r W e = refl
 slots-at r C e = refl
 
-pub number-at : (code k : ℕ) (slot : Slot) (d : List ℕ) (e : ℕ) → code < 35 → k ≡ placeOf slot → getD (getD fields code d) k e ≡ numberOf (kindIn (row code) slot)
+pub kind-at : (code k : ℕ) (slot : Slot) (d : List FieldKind) (e : FieldKind) → code < 35 → k ≡ placeOf slot → getD (getD fields code d) k e ≡ kindIn (row code) slot
 unfolding row other
-number-at code k slot d e h p =
+kind-at code k slot d e h p =
     ap (λ l. getD l k e) (map-at slotsOf other d rows code h) ∙ ap (λ i. getD (slotsOf (row code)) i e) p ∙ slots-at (row code) slot e
-
-few : (k : FieldKind) → numberOf k < 12
-few FieldKind.Unused = omega arith
-few FieldKind.Reg = omega arith
-few FieldKind.Target = omega arith
-few FieldKind.Const = omega arith
-few FieldKind.Func = omega arith
-few FieldKind.Import = omega arith
-few FieldKind.Global = omega arith
-few FieldKind.Table = omega arith
-few FieldKind.Name = omega arith
-few FieldKind.TypeRef = omega arith
-few FieldKind.Upval = omega arith
-few FieldKind.Shape = omega arith
-
-pub number-few : (k : FieldKind) {n : ℕ} → n ≡ numberOf k → n < 12
-number-few k e = omega (arith, few k)
-
-same : (k : FieldKind) → kindOf (numberOf k) ≡ k
-unfolding kindOf
-same FieldKind.Unused = refl
-same FieldKind.Reg = refl
-same FieldKind.Target = refl
-same FieldKind.Const = refl
-same FieldKind.Func = refl
-same FieldKind.Import = refl
-same FieldKind.Global = refl
-same FieldKind.Table = refl
-same FieldKind.Name = refl
-same FieldKind.TypeRef = refl
-same FieldKind.Upval = refl
-same FieldKind.Shape = refl
-
-pub kind-same : (k : FieldKind) {n : ℕ} {r : FieldKind} → n ≡ numberOf k → r ≡ kindOf n → r ≡ k
-kind-same k e h = h ∙ ap kindOf e ∙ same k
-
-pub kind-at : (n : ℕ) (d : FieldKind) → n < 12 → getD kinds n d ≡ kindOf n
-unfolding kindOf
-kind-at n d h = getD-other kinds n d FieldKind.Unused h
 
 -- ── terminators ──
 

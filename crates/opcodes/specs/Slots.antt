@@ -1,9 +1,6 @@
 -- A row's slots by place, and rules as code has them.
 use Prim.Native.Nat.{ℕ}
-use mathlib.Core.List.{List, [], _∷_}
-use lib.ListN.{getD}
 use Rattle.code.specs.declared.FieldKind.{FieldKind}
-use Rattle.code.specs.declared.FieldKind
 use Rattle.code.specs.Opcodes.{Row}
 use Rattle.code.specs.Opcodes as definitions
 use Rattle.opcodes.specs.declared.Slot.{Slot}
@@ -23,28 +20,6 @@ kindIn r A = r .A
 kindIn r B = r .B
 kindIn r W = r .W
 kindIn r C = r .C
-
--- kinds of fields by number, as the table in code has them
-abbrev pub kinds : List FieldKind
-kinds =
-    FieldKind.Unused ∷ FieldKind.Reg ∷ FieldKind.Target ∷ FieldKind.Const ∷ FieldKind.Func ∷ FieldKind.Import ∷ FieldKind.Global ∷ FieldKind.Table ∷ FieldKind.Name ∷ FieldKind.TypeRef ∷ FieldKind.Upval ∷ FieldKind.Shape ∷ []
-
-unfoldable pub kindOf : ℕ → FieldKind
-kindOf n = getD kinds n FieldKind.Unused
-
-abbrev pub numberOf : FieldKind → ℕ
-numberOf FieldKind.Unused = 0
-numberOf FieldKind.Reg = 1
-numberOf FieldKind.Target = 2
-numberOf FieldKind.Const = 3
-numberOf FieldKind.Func = 4
-numberOf FieldKind.Import = 5
-numberOf FieldKind.Global = 6
-numberOf FieldKind.Table = 7
-numberOf FieldKind.Name = 8
-numberOf FieldKind.TypeRef = 9
-numberOf FieldKind.Upval = 10
-numberOf FieldKind.Shape = 11
 
 -- a rule as the definitions have it
 unfoldable pub ruleOf : Rule → definitions.Rule

@@ -2,8 +2,20 @@
 ghost use mathlib.Core.Path.{_≡_};
 ghost use Prim.Native.Nat.{_<_};
 ghost use Rattle.code.specs.Opcodes.{row};
-ghost use Rattle.opcodes.specs.Slots.{placeOf, kindIn, numberOf, kindOf, ruleOf};
+ghost use Rattle.opcodes.specs.Slots.{placeOf, kindIn, ruleOf};
 use code::FieldKind;
+use code::FieldKind::Const;
+use code::FieldKind::Func;
+use code::FieldKind::Global;
+use code::FieldKind::Import;
+use code::FieldKind::Name;
+use code::FieldKind::Reg;
+use code::FieldKind::Shape;
+use code::FieldKind::Table;
+use code::FieldKind::Target;
+use code::FieldKind::TypeRef;
+use code::FieldKind::Unused;
+use code::FieldKind::Upval;
 use error::TypeKind;
 
 // The slots that number something.
@@ -34,83 +46,43 @@ pub enum Rule {
     WideBits,
 }
 
-// The kinds of fields by number.
-const KINDS: [FieldKind; 12] = [
-    FieldKind::Unused, // NONE
-    FieldKind::Reg, // REG
-    FieldKind::Target, // TARGET
-    FieldKind::Const, // CONST
-    FieldKind::Func, // FUNC
-    FieldKind::Import, // IMPORT
-    FieldKind::Global, // GLOBAL
-    FieldKind::Table, // TABLE
-    FieldKind::Name, // NAME
-    FieldKind::TypeRef, // TYPE_REF
-    FieldKind::Upval, // UPVAL
-    FieldKind::Shape, // SHAPE
-];
-
-const NONE: u8 = 0;
-
-const REG: u8 = 1;
-
-const TARGET: u8 = 2;
-
-const CONST: u8 = 3;
-
-const FUNC: u8 = 4;
-
-const IMPORT: u8 = 5;
-
-const GLOBAL: u8 = 6;
-
-const TABLE: u8 = 7;
-
-const NAME: u8 = 8;
-
-const TYPE_REF: u8 = 9;
-
-const UPVAL: u8 = 10;
-
-const SHAPE: u8 = 11;
-
 // A, B, W, C of each code.
-const FIELDS: [[u8; 4]; 35] = [
-    [NONE, NONE, NONE, NONE], // 0 Unreachable
-    [NONE, NONE, NONE, NONE], // 1 RetVoid
-    [REG, NONE, NONE, NONE], // 2 Ret
-    [REG, NONE, NONE, NONE], // 3 Throw
-    [NONE, NONE, TARGET, NONE], // 4 Jmp
-    [REG, NONE, TARGET, NONE], // 5 branch
-    [REG, NONE, TABLE, NONE], // 6 Switch
-    [REG, NONE, FUNC, NONE], // 7 TailCall
-    [REG, REG, NONE, NONE], // 8 TailCallIndirect
-    [REG, REG, NONE, REG], // 9 IAdd
-    [REG, REG, NONE, REG], // 10 DAdd
-    [REG, NONE, CONST, NONE], // 11 constant
-    [REG, NONE, GLOBAL, NONE], // 12 global
-    [REG, REG, NONE, NAME], // 13 name
-    [REG, UPVAL, NONE, NONE], // 14 capture
-    [REG, NONE, FUNC, NONE], // 15 Call
-    [REG, REG, NONE, NONE], // 16 CallIndirect
-    [REG, REG, NONE, NONE], // 17 DCall
-    [REG, REG, NONE, NONE], // 18 CoroNewIndirect
-    [REG, REG, NONE, NONE], // 19 Spawn
-    [REG, NONE, FUNC, NONE], // 20 CoroNew
-    [REG, NONE, IMPORT, NONE], // 21 CallImport
-    [REG, NONE, FUNC, NONE], // 22 MakeClosure
-    [REG, SHAPE, NONE, NONE], // 23 DCallShape
-    [REG, TYPE_REF, NONE, NONE], // 24 NewStruct
-    [REG, TYPE_REF, NONE, NONE], // 25 NewArray
-    [REG, TYPE_REF, NONE, NONE], // 26 NewMap
-    [REG, TYPE_REF, NONE, NONE], // 27 NewCell
-    [REG, REG, NONE, NONE], // 28 StrConcatN
-    [REG, REG, NONE, REG], // 29 StrSlice
-    [REG, REG, NONE, NONE], // 30 FromDyn
-    [REG, NONE, NONE, NONE], // 31 Raise
-    [REG, REG, NONE, NONE], // 32 FloatToBits
-    [REG, REG, NONE, NONE], // 33 BitsToFloat
-    [REG, REG, NONE, NONE], // 34 move
+const FIELDS: [[FieldKind; 4]; 35] = [
+    [Unused, Unused, Unused, Unused], // 0 Unreachable
+    [Unused, Unused, Unused, Unused], // 1 RetVoid
+    [Reg, Unused, Unused, Unused], // 2 Ret
+    [Reg, Unused, Unused, Unused], // 3 Throw
+    [Unused, Unused, Target, Unused], // 4 Jmp
+    [Reg, Unused, Target, Unused], // 5 branch
+    [Reg, Unused, Table, Unused], // 6 Switch
+    [Reg, Unused, Func, Unused], // 7 TailCall
+    [Reg, Reg, Unused, Unused], // 8 TailCallIndirect
+    [Reg, Reg, Unused, Reg], // 9 IAdd
+    [Reg, Reg, Unused, Reg], // 10 DAdd
+    [Reg, Unused, Const, Unused], // 11 constant
+    [Reg, Unused, Global, Unused], // 12 global
+    [Reg, Reg, Unused, Name], // 13 name
+    [Reg, Upval, Unused, Unused], // 14 capture
+    [Reg, Unused, Func, Unused], // 15 Call
+    [Reg, Reg, Unused, Unused], // 16 CallIndirect
+    [Reg, Reg, Unused, Unused], // 17 DCall
+    [Reg, Reg, Unused, Unused], // 18 CoroNewIndirect
+    [Reg, Reg, Unused, Unused], // 19 Spawn
+    [Reg, Unused, Func, Unused], // 20 CoroNew
+    [Reg, Unused, Import, Unused], // 21 CallImport
+    [Reg, Unused, Func, Unused], // 22 MakeClosure
+    [Reg, Shape, Unused, Unused], // 23 DCallShape
+    [Reg, TypeRef, Unused, Unused], // 24 NewStruct
+    [Reg, TypeRef, Unused, Unused], // 25 NewArray
+    [Reg, TypeRef, Unused, Unused], // 26 NewMap
+    [Reg, TypeRef, Unused, Unused], // 27 NewCell
+    [Reg, Reg, Unused, Unused], // 28 StrConcatN
+    [Reg, Reg, Unused, Reg], // 29 StrSlice
+    [Reg, Reg, Unused, Unused], // 30 FromDyn
+    [Reg, Unused, Unused, Unused], // 31 Raise
+    [Reg, Reg, Unused, Unused], // 32 FloatToBits
+    [Reg, Reg, Unused, Unused], // 33 BitsToFloat
+    [Reg, Reg, Unused, Unused], // 34 move
 ];
 
 const TERMINATES: [bool; 35] = [
@@ -200,29 +172,14 @@ fn place(slot: Slot) -> usize
     }
 }
 
-// The kind of a code's slot, by number.
-fn kind_number(code: u32, slot: Slot) -> u8
-    requires { ⌜ code < 35 ⌝ }
-    ensures { λ r. ⌜ r ≡ numberOf (kindIn (row code) slot) ⌝ }
-{
-    let i = code as usize;
-    let k = place(slot);
-    FIELDS[i][k]
-}
-
-fn kind_of(n: u8) -> FieldKind
-    requires { ⌜ n < 12 ⌝ }
-    ensures { λ r. ⌜ r ≡ kindOf n ⌝ }
-{
-    KINDS[n as usize]
-}
-
 // The kind of a code's slot.
 pub fn field_kind(code: u32, slot: Slot) -> FieldKind
     requires { ⌜ code < 35 ⌝ }
     ensures { λ r. ⌜ r ≡ kindIn (row code) slot ⌝ }
 {
-    kind_of(kind_number(code, slot))
+    let i = code as usize;
+    let k = place(slot);
+    FIELDS[i][k]
 }
 
 // The code ends a run of instructions.

@@ -1,18 +1,24 @@
 -- `opcodes::field_kind` meets its contract.
 use borrow.Author.Needs.{needs}
 use native.Mathlib.Omega.{arith}
-use Rattle.opcodes.proofs.Tables.{number-few, kind-same}
+use Rattle.opcodes.proofs.Tables.{place-in, kind-at}
 use Rattle.opcodes.proofs.field_kind.Statement.{statement}
 use Rattle.opcodes.proofs.field_kind.Tie as tie
 
-kind-number-requires : tie.Need-kind-number-requires
-kind-number-requires c κs = search needs
+place-requires : tie.Need-place-requires
+place-requires c κs = search needs
 
-kind-of-requires : tie.Need-kind-of-requires
-kind-of-requires c κs = search (needs, number-few)
+mul-result : tie.Need-mul-result
+mul-result c = search needs
+
+index-1-result : tie.Need-index-1-result
+index-1-result c = search needs
+
+index-2-result : tie.Need-index-2-result
+index-2-result c = search (needs, place-in)
 
 returns : tie.Need-returns
-returns c = search (needs, kind-same)
+returns c = kind-at (c .before .before .args .code) (c .before .place .result) (c .before .before .args .slot) _ _ (search needs) (c .before .place .ensures)
 
 pub field-kind-spec : {M : Type 1} → statement M
-field-kind-spec = tie.close (tie.spec kind-number-requires kind-of-requires returns)
+field-kind-spec = tie.close (tie.spec place-requires mul-result index-1-result index-2-result returns)
