@@ -15,10 +15,10 @@ use Rattle.code.specs.declared.FieldKind
 use Rattle.code.specs.Opcodes.{row}
 use Rattle.opening.specs.declared.Opened.{Opened}
 use Rattle.insts.specs.declared.Inst.{Inst}
-use Rattle.opcodes.specs.declared.Slot.{Slot}
-use Rattle.opcodes.specs.declared.Slot.the-variants.{A, B, W, C}
+use Rattle.field_kinds.specs.declared.Slot.{Slot}
+use Rattle.field_kinds.specs.declared.Slot.the-variants.{A, B, W, C}
 use Rattle.insts.specs.Insts.{inst}
-use Rattle.opcodes.specs.Slots.{kindIn}
+use Rattle.field_kinds.specs.Slots.{kindIn}
 use Rattle.frames.specs.declared.Frame.{Frame}
 use Rattle.field_rules.specs.Fields.{kindFaults, slotOf, slotFaults, slotsFaults}
 

@@ -11,10 +11,10 @@ use Rattle.code.specs.declared.FieldKind
 use Rattle.code.specs.Opcodes.{row}
 use Rattle.opening.specs.declared.Opened.{Opened}
 use Rattle.insts.specs.declared.Inst.{Inst}
-use Rattle.opcodes.specs.declared.Slot.{Slot}
-use Rattle.opcodes.specs.declared.Slot.the-variants.{A, B, W, C}
+use Rattle.field_kinds.specs.declared.Slot.{Slot}
+use Rattle.field_kinds.specs.declared.Slot.the-variants.{A, B, W, C}
 use Rattle.insts.specs.Insts.{inst}
-use Rattle.opcodes.specs.Slots.{kindIn}
+use Rattle.field_kinds.specs.Slots.{kindIn}
 use Rattle.frames.specs.declared.Frame.{Frame}
 
 -- what a field's kind numbers, by the counts of the sheet and of the function

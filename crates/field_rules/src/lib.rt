@@ -13,6 +13,8 @@ use error::What;
 use error::const_in;
 use error::func_in;
 use error::in_range;
+use field_kinds::Slot;
+use field_kinds::field_kind;
 use frames::Frame;
 use insts::Inst;
 use insts::opcode;
@@ -20,8 +22,6 @@ use insts::slot_a;
 use insts::slot_b;
 use insts::slot_c;
 use insts::slot_w;
-use opcodes::Slot;
-use opcodes::field_kind;
 use opening::Opened;
 
 // A number of the kind is in range.

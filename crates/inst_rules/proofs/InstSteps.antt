@@ -30,10 +30,11 @@ use Rattle.code.specs.Opcodes.{Row, rows, row, step}
 use Rattle.code.specs.Opcodes as definitions
 use Rattle.code.specs.Code.{fieldFaults, fieldsFaults, ruleFaults}
 use Rattle.insts.specs.declared.Inst.{Inst}
-use Rattle.opcodes.specs.declared.Slot.the-variants.{A, B, W, C}
+use Rattle.field_kinds.specs.declared.Slot.the-variants.{A, B, W, C}
 use Rattle.opcodes.specs.declared.Rule.{Rule}
 use Rattle.insts.specs.Insts.{inst}
-use Rattle.opcodes.specs.Slots.{kindIn, ruleOf}
+use Rattle.field_kinds.specs.Slots.{kindIn}
+use Rattle.opcodes.specs.Rules.{ruleOf}
 use Rattle.frames.specs.declared.Frame.{Frame}
 use Rattle.frames.specs.Frames.{funcOf, Framed, Captured, Shaped}
 use Rattle.field_rules.specs.Fields.{kindFaults, slotOf, slotFaults, slotsFaults}

@@ -28,7 +28,7 @@ use Rattle.insts.specs.declared.Inst.{Inst}
 use Rattle.opcodes.specs.declared.Rule.{Rule}
 use Rattle.opcodes.specs.declared.Rule.the-variants.{Free, NoPromote, PromoteToDyn, TailCall, TailCallIndirect, Call, CallIndirect, CallImport, CallShape, MakeClosure, OfKind, Concatenate, Slice, NotToRef, Catchable, WideBits}
 use Rattle.insts.specs.Insts.{inst}
-use Rattle.opcodes.specs.Slots.{ruleOf}
+use Rattle.opcodes.specs.Rules.{ruleOf}
 use Rattle.frames.specs.declared.Frame.{Frame}
 use Rattle.frames.specs.Frames.{funcOf}
 use Rattle.number_rules.specs.Numbers.{windowIn, promoteFaults, dynFaults, refFaults, raiseFaults, wideFaults, outsideTry}

@@ -12,7 +12,7 @@ use Rattle.opening.specs.declared.Opened.{Opened}
 use Rattle.insts.specs.declared.Inst.{Inst}
 use Rattle.opcodes.specs.declared.Rule.{Rule}
 use Rattle.insts.specs.Insts.{inst}
-use Rattle.opcodes.specs.Slots.{ruleOf}
+use Rattle.opcodes.specs.Rules.{ruleOf}
 use Rattle.frames.specs.declared.Frame.{Frame}
 use Rattle.frames.specs.Frames.{funcOf}
 

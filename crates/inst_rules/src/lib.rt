@@ -12,7 +12,7 @@ ghost use Rattle.opening.specs.Ready.{Ready};
 ghost use Rattle.code.specs.Opcodes.{row};
 ghost use Rattle.code.specs.Code.{fieldsFaults, ruleFaults, unreachable};
 ghost use Rattle.insts.specs.Insts.{inst};
-ghost use Rattle.opcodes.specs.Slots.{ruleOf};
+ghost use Rattle.opcodes.specs.Rules.{ruleOf};
 ghost use Rattle.frames.specs.Frames.{funcOf, Framed, Captured, Shaped};
 ghost use Rattle.callee_rules.specs.Callees.{Checkable};
 ghost use Rattle.inst_rules.specs.Counted.{Reached, ruleIn};
