@@ -11,14 +11,14 @@ ghost use Rattle.code.specs.Callee.{noFunc, funcAt};
 ghost use Rattle.bodies.specs.Bodies.{Placed, endOf, Fronts, Backs, Countable};
 use blocks::word;
 use error::FuncId;
-use layout::funcs::skip_shapes;
-use layout::funcs::skip_switches;
-use layout::imports::skip_params;
-use layout::types::skip_values;
+use func_layout::skip_shapes;
+use func_layout::skip_switches;
 use opening::Opened;
 use opening::func_at;
+use part_layout::imports::skip_params;
 use reader::Step;
 use reader::skip_records;
+use type_layout::skip_values;
 
 // The signature, and where the other nine stand: lists at their counts, the parameter list at its 0 or 1.
 pub struct Body {

@@ -1,5 +1,5 @@
 -- The code of a function, part by part, and of all functions.
-use Prim.Native.Nat.{ℕ, _+_, _-_, _*_, _≤_, _<_}
+use Prim.Native.Nat.{ℕ, _+_, _*_, _≤_, _<_}
 use mathlib.Core.Path.{_≡_, refl, sym, ap, _∙_}
 use mathlib.Core.List.{List, [], _∷_, _++_, map}
 use native.Mathlib.Omega.{arith}
@@ -7,12 +7,11 @@ use lib.ListN.{length}
 use Rattle.blocks.specs.Frame.{firstWords}
 use Rattle.error.specs.declared.FuncId.{FuncId}
 use Rattle.error.specs.declared.LoadError.{LoadError}
-use Rattle.error.specs.declared.Verdict.{Verdict}
 use Rattle.error.specs.declared.Judged.{Judged}
 use Rattle.error.specs.declared.Judged.the-variants.{Passed, Refused}
 use Rattle.error.specs.Answer.{inFunction}
-use Rattle.error.specs.Verdict.{verdictOf, judgedOf, placed}
-use Rattle.error.specs.VerdictLaws.{none-refused, judged-then, judged-stop, placed-faults}
+use Rattle.error.specs.Verdict.{judgedOf}
+use Rattle.error.specs.VerdictLaws.{none-refused, judged-then, judged-stop}
 use Rattle.sheet.specs.Module.{Func, Module}
 use Rattle.layout.specs.Opened.{moduleIn}
 use Rattle.code.specs.Callee.{noFunc, funcAt}
@@ -25,31 +24,12 @@ use Rattle.opening.specs.ReadyLaws.{count-funcs, funcs-inside, ready-below}
 use Rattle.judging.specs.Clearing.{Clears, clears-start, clears-passed, clears-on, clears-refused}
 use Rattle.frames.specs.declared.Frame as frames
 use Rattle.frames.specs.Frames.{funcOf, Framed, Captured, Shaped}
-use Rattle.code_rules.specs.Sweep.{handlersFaults, tablesFaults, instsFaults, partsFaults, Ends, Marked, Above}
+use Rattle.code_parts.specs.CodeParts.{handlersFaults, tablesFaults, partsFaults}
+use Rattle.code_rules.specs.Sweep.{instsFaults, Ends, Marked, Above}
 use Rattle.code_rules.proofs.MarkSteps.{none-here, none-left}
-use Rattle.code_rules.proofs.LastSteps.{code-inside}
+use Rattle.code_parts.proofs.LastSteps.{code-inside}
 
--- ── the last instruction, handlers, tables ──
-
-module _ (n : ℕ) (f : Func) where
-  pub parts-stop : {r : Judged} {d : LoadError} → r ≡ Refused d → r ≡ judgedOf (lastFaults n f) → Refused d ≡ judgedOf (partsFaults n f)
-  unfolding partsFaults
-  parts-stop {r} {d} e k =
-      judged-stop (lastFaults n f ++ map (inFunction n) (handlersFaults f)) (map (inFunction n) (tablesFaults f)) d refl
-      (judged-stop (lastFaults n f) (map (inFunction n) (handlersFaults f)) d e k)
-
-  module _ {r : Judged} (e : r ≡ Passed) (k : r ≡ judgedOf (lastFaults n f)) {v : Verdict} {s : Judged} (u : v ≡ verdictOf (handlersFaults f)) (z : s ≡ placed (inFunction n) v) where
-    both : s ≡ judgedOf (lastFaults n f ++ map (inFunction n) (handlersFaults f))
-    both = judged-then (lastFaults n f) (map (inFunction n) (handlersFaults f)) e k (placed-faults (inFunction n) (handlersFaults f) u z)
-
-    pub parts-second : {d : LoadError} → s ≡ Refused d → Refused d ≡ judgedOf (partsFaults n f)
-    unfolding partsFaults
-    parts-second {d} y = judged-stop (lastFaults n f ++ map (inFunction n) (handlersFaults f)) (map (inFunction n) (tablesFaults f)) d y both
-
-    pub parts-third : {x : Verdict} {t : Judged} → s ≡ Passed → x ≡ verdictOf (tablesFaults f) → t ≡ placed (inFunction n) x → t ≡ judgedOf (partsFaults n f)
-    unfolding partsFaults
-    parts-third y p q =
-        judged-then (lastFaults n f ++ map (inFunction n) (handlersFaults f)) (map (inFunction n) (tablesFaults f)) y both (placed-faults (inFunction n) (tablesFaults f) p q)
+-- ── no handler is broken ──
 
 map-none : {A B : Type 0} (g : A → B) (xs : List A) → map g xs ≡ [] → xs ≡ []
 map-none g [] e = refl
@@ -61,8 +41,6 @@ parts-handlers n f e k =
     map-none (inFunction n) (handlersFaults f)
     (none-left (lastFaults n f) (map (inFunction n) (handlersFaults f))
     (none-here (lastFaults n f ++ map (inFunction n) (handlersFaults f)) (map (inFunction n) (tablesFaults f)) (none-refused (partsFaults n f) e k)))
-
-pub ruleset parting = (parts-stop, parts-second, parts-third)
 
 -- ── and then each instruction ──
 

@@ -29,7 +29,7 @@ use Rattle.frames.specs.declared.Frame.{Frame}
 use Rattle.frames.specs.Frames.{funcOf, Framed}
 use Rattle.code_rules.specs.Sweep.{instsFaults, reachOf, Ends}
 use Rattle.code_rules.proofs.Cover.{cover-reach, reach-start, reach-next}
-use Rattle.code_rules.proofs.LastSteps.{code-inside, inst-value}
+use Rattle.code_parts.proofs.LastSteps.{code-inside, inst-value}
 
 -- nothing is broken before pc, and the handlers that start before pc reach so far
 pub record Sweeps (ws : List ℕ) (c : Frame) (pc reach : ℕ) : Type 0 where

@@ -30,10 +30,11 @@ use Rattle.opening.specs.Ready.{Ready}
 use Rattle.bodies.specs.BodyLaws.{list-count}
 use Rattle.frames.specs.declared.Frame as frames
 use Rattle.frames.specs.Frames.{funcOf, Framed}
-use Rattle.code_rules.specs.Sweep.{noHandler, handlersFaults, endAt, markAt, Marked}
-use Rattle.code_rules.proofs.Sizes.{handler-takes, many-inside}
-use Rattle.code_rules.proofs.HandlerSteps.{handler-value}
-use Rattle.code_rules.proofs.LastSteps.{code-inside}
+use Rattle.code_parts.specs.CodeParts.{noHandler, handlersFaults}
+use Rattle.code_rules.specs.Sweep.{endAt, markAt, Marked}
+use Rattle.code_parts.proofs.Sizes.{handler-takes, many-inside}
+use Rattle.code_parts.proofs.HandlerSteps.{handler-value}
+use Rattle.code_parts.proofs.LastSteps.{code-inside}
 
 -- ── a handler that was passed ──
 

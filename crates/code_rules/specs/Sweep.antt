@@ -1,39 +1,19 @@
--- Rule 7 in parts, and how far handlers reach.
+-- Rule 7 over the instructions, and how far handlers reach.
 use Prim.Native.Nat.{ℕ, _+_, _*_, _<_, max}
 use mathlib.Core.Path.{_≡_}
-use mathlib.Core.List.{List, [], _∷_, _++_, map}
+use mathlib.Core.List.{List, [], _∷_}
 use mathlib.Core.Bool.{cond}
 use lib.Dec.{eqb, ltb}
 use lib.ListN.{getD, set}
-use Rattle.lists.specs.Lists.{concatMap, concatMapFrom}
+use Rattle.lists.specs.Lists.{concatMapFrom}
 use Rattle.blocks.specs.Blocks.{words}
-use Rattle.error.specs.declared.LoadErrorKind.{LoadErrorKind}
 use Rattle.error.specs.declared.LoadError.{LoadError}
-use Rattle.error.specs.Answer.{inFunction}
-use Rattle.sheet.specs.Module.{Handler, Switch, Func, Module}
-use Rattle.code.specs.Code.{handlerFaults, tableFaults, placedFaults, lastFaults}
+use Rattle.sheet.specs.Module.{Handler, Func, Module}
+use Rattle.code.specs.Code.{placedFaults}
 use Rattle.region.specs.Region.{Off, Frame}
 use Rattle.opening.specs.declared.Opened.{Opened}
 use Rattle.frames.specs.declared.Frame as frames
 use Rattle.frames.specs.Frames.{funcOf}
-
-unfoldable pub noHandler : Handler
-noHandler = record { start = 0; end = 0; target = 0; catch = 0 }
-
-unfoldable pub noSwitch : Switch
-noSwitch = record { targets = []; default = 0 }
-
--- ── the faults of a function, part by part ──
-
-unfoldable pub handlersFaults : Func → List LoadErrorKind
-handlersFaults f = concatMap (handlerFaults f) (f .handlers)
-
-unfoldable pub tablesFaults : Func → List LoadErrorKind
-tablesFaults f = concatMap (tableFaults f) (f .tables)
-
--- before the instructions: the last one, handlers, tables
-unfoldable pub partsFaults : ℕ → Func → List LoadError
-partsFaults n f = lastFaults n f ++ map (inFunction n) (handlersFaults f) ++ map (inFunction n) (tablesFaults f)
 
 unfoldable pub instsFaults : Module → ℕ → Func → List LoadError
 instsFaults m n f = concatMapFrom 0 (placedFaults m n f) (f .code)

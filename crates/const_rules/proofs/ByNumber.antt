@@ -28,9 +28,10 @@ use Rattle.judging.specs.Clearing.{Clears, clears-start, clears-next, clears-ho
 use Rattle.opening.specs.declared.Opened.{Opened}
 use Rattle.opening.specs.Ready.{Opens, Ready, Kept, posAt}
 use Rattle.opening.specs.ReadyLaws.{entry-room, entry-whole, entry-value, consts-in, count-consts, consts-inside, ready-kept}
-use Rattle.const_rules.specs.declared.Nested.{Nested}
-use Rattle.const_rules.specs.declared.Nested.the-variants.{Depth, Broken}
-use Rattle.const_rules.specs.Nesting.{nestedOf, nestFaults, constNesting, brokenConsts}
+use Rattle.const_nesting.specs.declared.Nested.{Nested}
+use Rattle.const_nesting.specs.declared.Nested.the-variants.{Depth, Broken}
+use Rattle.const_nesting.specs.Nesting.{nestedOf, nestFaults, constNesting}
+use Rattle.const_rules.specs.InOrder.{brokenConsts}
 
 -- ── an answer ──
 

@@ -1,1 +1,1 @@
-pub mod Nesting
+pub mod InOrder

@@ -18,21 +18,19 @@ use Rattle.layout.specs.Opened.{moduleIn}
 use Rattle.code.specs.Callee.{noFunc, funcAt}
 use Rattle.funcs.specs.Funcs.{funcFaults, funcsFaults}
 use Rattle.opening.specs.declared.Opened.{Opened}
-use Rattle.opening.specs.Ready.{Opens, Ready}
+use Rattle.opening.specs.Ready.{Ready}
 use Rattle.opening.specs.ReadyLaws.{count-funcs}
 use Rattle.judging.specs.Clearing.{Clears, clears-start, clears-passed, clears-on, clears-refused}
 use Rattle.frames.specs.declared.Frame.{Frame}
 use Rattle.frames.specs.Frames.{funcOf}
-use Rattle.func_rules.specs.Records.{headFaults, listsFaults, recordFaults}
-use Rattle.func_rules.proofs.RecordSteps.{func-parts}
+use Rattle.func_records.specs.Records.{headFaults, listsFaults}
+use Rattle.func_rules.specs.Placed.{recordFaults}
+use Rattle.func_records.proofs.RecordSteps.{func-parts}
 
 -- ── work that stays as it was ──
 
 pub ready-same : (ws w v : List ℕ) (o : Opened) → Ready ws w o → v ≡ w → Ready ws v o
 ready-same ws w v o x e = subst (λ u. Ready ws u o) (sym e) x
-
-pub ready-opens : (ws w : List ℕ) (o : Opened) → Ready ws w o → Opens ws o
-ready-opens ws w o x = x .opens
 
 pub same-twice : (u v w : List ℕ) → v ≡ u → w ≡ v → w ≡ u
 same-twice u v w e k = k ∙ e

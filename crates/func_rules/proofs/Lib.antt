@@ -1,3 +1,1 @@
-pub mod RecordSteps
-pub mod ParamSteps
 pub mod FuncSteps

@@ -21,15 +21,15 @@ use error::FuncId;
 use error::TypeId;
 use frames::Frame;
 use frames::open_frame;
+use number_lists::write_names;
+use number_lists::write_type_refs;
 use opening::Opened;
 use opening::canon_type;
 use param_registers::canon_at;
 use signatures::param_count;
 use signatures::result_count;
 use signatures::results_at;
-use value_lists::write_names;
 use value_lists::write_references;
-use value_lists::write_type_refs;
 use value_lists::write_values;
 use writing::push;
 

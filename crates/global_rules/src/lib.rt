@@ -17,7 +17,7 @@ use error::Verdict;
 use error::const_in;
 use error::in_module;
 use opening::Opened;
-use type_rules::check_value;
+use value_rules::check_value;
 
 // A value type, and a constant's number + 1.
 fn check_global(sheet: &[u8], o: Opened, at: usize) -> Verdict

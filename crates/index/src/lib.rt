@@ -9,13 +9,13 @@ ghost use Rattle.reader.specs.Step.{stepOf};
 ghost use Rattle.reader.specs.Value.{Whole};
 ghost use Rattle.index.specs.Index.{memberOf, edgesOf, Indexable, index, indexOf};
 use blocks::word;
+use func_layout::skip_function;
 use layout::Layout;
-use layout::consts::skip_const;
-use layout::funcs::skip_function;
-use layout::imports::skip_import;
-use layout::types::skip_type;
+use part_layout::consts::skip_const;
+use part_layout::imports::skip_import;
 use reader::Step;
 use reader::skip_string;
+use type_layout::skip_type;
 
 // The parts whose members are reached by number.
 pub enum Part {

@@ -29,13 +29,17 @@ use Rattle.code.specs.declared.FieldKind
 use Rattle.code.specs.Opcodes.{Row, rows, row, step}
 use Rattle.code.specs.Opcodes as definitions
 use Rattle.code.specs.Code.{fieldFaults, fieldsFaults, ruleFaults}
-use Rattle.opcodes.specs.declared.Inst.{Inst}
-use Rattle.opcodes.specs.declared.Slot.the-variants.{A, B, W, C}
+use Rattle.insts.specs.declared.Inst.{Inst}
+use Rattle.field_kinds.specs.declared.Slot.the-variants.{A, B, W, C}
 use Rattle.opcodes.specs.declared.Rule.{Rule}
-use Rattle.opcodes.specs.Slots.{inst, kindIn, ruleOf}
+use Rattle.insts.specs.Insts.{inst}
+use Rattle.field_kinds.specs.Slots.{kindIn}
+use Rattle.opcodes.specs.Rules.{ruleOf}
 use Rattle.frames.specs.declared.Frame.{Frame}
 use Rattle.frames.specs.Frames.{funcOf, Framed, Captured, Shaped}
-use Rattle.inst_rules.specs.Counted.{kindFaults, slotOf, slotFaults, slotsFaults, Checkable, Reached, ruleIn}
+use Rattle.field_rules.specs.Fields.{kindFaults, slotOf, slotFaults, slotsFaults}
+use Rattle.callee_rules.specs.Callees.{Checkable}
+use Rattle.inst_rules.specs.Counted.{Reached, ruleIn}
 
 -- ── counts as the definitions have them ──
 

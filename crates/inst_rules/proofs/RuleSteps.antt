@@ -24,15 +24,18 @@ use Rattle.opening.specs.declared.Opened.{Opened}
 use Rattle.opening.specs.ReadyLaws.{funcs-in}
 use Rattle.code.specs.Callee.{funcAt}
 use Rattle.code.specs.Code.{isDynRegister, windowFaults, directFaults, hasKind, ruleFaults}
-use Rattle.opcodes.specs.declared.Inst.{Inst}
+use Rattle.insts.specs.declared.Inst.{Inst}
 use Rattle.opcodes.specs.declared.Rule.{Rule}
 use Rattle.opcodes.specs.declared.Rule.the-variants.{Free, NoPromote, PromoteToDyn, TailCall, TailCallIndirect, Call, CallIndirect, CallImport, CallShape, MakeClosure, OfKind, Concatenate, Slice, NotToRef, Catchable, WideBits}
-use Rattle.opcodes.specs.Slots.{inst, ruleOf}
+use Rattle.insts.specs.Insts.{inst}
+use Rattle.opcodes.specs.Rules.{ruleOf}
 use Rattle.frames.specs.declared.Frame.{Frame}
 use Rattle.frames.specs.Frames.{funcOf}
-use Rattle.inst_rules.specs.Counted.{windowIn, promoteFaults, dynFaults, refFaults, raiseFaults, wideFaults, wantedFaults, importFaults, outsideTry, Checkable, Reached, ruleIn}
-use Rattle.inst_rules.proofs.Words.{value-within, value-dyn, few-args, few-shapes}
-use Rattle.inst_rules.proofs.CalleeSteps.{callee-few, callee-place, window-of}
+use Rattle.number_rules.specs.Numbers.{windowIn, promoteFaults, dynFaults, refFaults, raiseFaults, wideFaults, outsideTry}
+use Rattle.callee_rules.specs.Callees.{wantedFaults, importFaults, Checkable}
+use Rattle.inst_rules.specs.Counted.{Reached, ruleIn}
+use Rattle.callee_rules.proofs.Words.{value-within, value-dyn, few-args, few-shapes}
+use Rattle.callee_rules.proofs.CalleeSteps.{callee-few, callee-place, window-of}
 
 ap3 : {A : Type 0} (f : ℕ → ℕ → ℕ → A) {a b c x y z : ℕ} → a ≡ x → b ≡ y → c ≡ z → f a b c ≡ f x y z
 ap3 f {a} {b} {c} {x} {y} {z} p q r = ap (λ t. f t b c) p ∙ ap (λ t. f x t c) q ∙ ap (λ t. f x y t) r

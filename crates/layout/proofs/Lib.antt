@@ -1,5 +1,1 @@
-pub mod TypeSteps
-pub mod ConstSteps
-pub mod FuncSteps
-pub mod TailSteps
 pub mod LayoutSteps

@@ -2,12 +2,7 @@
 ghost use mathlib.Core.Path.{_≡_};
 ghost use Rattle.layout.specs.Layout.{layout, checkedOf};
 
-pub mod consts;
-pub mod funcs;
-pub mod imports;
 pub mod parts;
-pub mod tail;
-pub mod types;
 
 use crate::parts::check_words;
 use blocks::Frame;

@@ -7,16 +7,16 @@ ghost use Rattle.reader.specs.Step.{stepOf};
 ghost use Rattle.layout.specs.Parts.{firstParts, middleParts, lastParts};
 use crate::Checked;
 use crate::Layout;
-use crate::consts::skip_consts;
-use crate::funcs::skip_functions;
-use crate::imports::skip_globals;
-use crate::imports::skip_imports;
-use crate::tail::skip_exports;
-use crate::tail::skip_hooks;
-use crate::types::skip_types;
 use blocks::word;
+use func_layout::skip_functions;
+use part_layout::consts::skip_consts;
+use part_layout::imports::skip_globals;
+use part_layout::imports::skip_imports;
+use part_layout::tail::skip_exports;
+use part_layout::tail::skip_hooks;
 use reader::Step;
 use reader::skip_string;
+use type_layout::skip_types;
 
 pub fn skip_strings(sheet: &[u8], n: usize, at: usize) -> Step
     ensures { λ r. ⌜ r ≡ stepOf (listOf string (firstWords (now (sheet .entry)) n) at) ⌝ }

@@ -10,13 +10,13 @@ ghost use Rattle.opening.specs.Ready.{Ready};
 ghost use Rattle.writing.specs.Writing.{written};
 ghost use Rattle.link.specs.Parts.{Clear, frontWords, backWords, FrontAt, BackAt, Small, headerOf, tableBy};
 use func_section::write_funcs;
+use global_section::write_global_references;
+use global_section::write_globals;
+use hook_section::write_hooks;
 use opening::Opened;
 use plain_sections::write_canon;
-use plain_sections::write_hooks;
 use plain_sections::write_imports;
 use span_section::write_spans;
-use type_section::write_global_references;
-use type_section::write_globals;
 use type_section::write_types;
 use writing::push;
 

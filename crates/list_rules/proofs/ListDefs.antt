@@ -13,11 +13,13 @@ use Rattle.sheet.specs.Module.{Param, Arg, Module}
 use Rattle.imports.specs.Params.{byReference, optional, goodFlags, optionalLast, givenNames, validParams, fitsOne, fits}
 use Rattle.funcs.specs.Shapes.{goodKind, positional, isNamed, namedLast, namesRead, validShape}
 use Rattle.error.specs.Answer.{stringNumber}
-use Rattle.list_rules.specs.declared.ListKind.{ListKind}
-use Rattle.list_rules.specs.declared.ListKind.the-variants.{Params, Args}
-use Rattle.list_rules.specs.declared.Name.the-variants.{Nothing, Number}
-use Rattle.list_rules.specs.Members.{pairsAt, isListed, isLate, isEarly, isInOrder, lateAfter, nameOf, nameIn, memberHolds, membersHold, named, namesOf, namesIn, namesDistinct, validMembers, valueFrom, referenceFits, referencesFit}
-use Rattle.list_rules.proofs.MarkLaws.{below, in-names}
+use Rattle.list_members.specs.declared.ListKind.{ListKind}
+use Rattle.list_members.specs.declared.ListKind.the-variants.{Params, Args}
+use Rattle.list_members.specs.declared.Name.the-variants.{Nothing, Number}
+use Rattle.list_members.specs.Members.{pairsAt, isListed, isLate, isEarly, isInOrder, lateAfter, nameOf, nameIn, memberHolds, membersHold}
+use Rattle.list_marks.specs.Marks.{named, namesOf, namesIn, namesDistinct, validMembers}
+use Rattle.list_rules.specs.References.{valueFrom, referenceFits, referencesFit}
+use Rattle.list_marks.proofs.MarkLaws.{below, in-names}
 use Rattle.list_rules.proofs.ListWords.{toParam, toArg, valuesAt, length-valuesAt}
 
 abbrev params : List (ℕ × ℕ) → List Param

@@ -24,8 +24,10 @@ use Rattle.opening.specs.ReadyLaws.{count-strings}
 use Rattle.imports.specs.Params.{validParams, fits, paramListFaults}
 use Rattle.funcs.specs.Shapes.{validShape, shapeFaults}
 use Rattle.judging.specs.Judging.{listFaults, Judges, judges-start, judges-end, judges-whole, judges-stop, judges-next}
-use Rattle.list_rules.specs.declared.ListKind.the-variants.{Params, Args}
-use Rattle.list_rules.specs.Members.{pairsAt, validMembers, referencesFit}
+use Rattle.list_members.specs.declared.ListKind.the-variants.{Params, Args}
+use Rattle.list_members.specs.Members.{pairsAt}
+use Rattle.list_marks.specs.Marks.{validMembers}
+use Rattle.list_rules.specs.References.{referencesFit}
 use Rattle.list_rules.proofs.ListWords.{toParam, toArg, param-words, arg-words, pairs-inside, pairs-value, list-ends, valuesAt, values-inside, values-value, no-params, params-whole, params-some}
 use Rattle.list_rules.proofs.ListDefs.{valid-args, valid-params, other-count}
 

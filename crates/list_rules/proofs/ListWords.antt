@@ -12,7 +12,7 @@ use Rattle.blocks.specs.Blocks.{words}
 use Rattle.blocks.specs.Frame.{firstWords}
 use Rattle.blocks.specs.FirstWords.{length-firstWords, firstWords-at}
 use Rattle.reader.specs.Reader.{Got, broken, got, Reader, andThen, pure, fail, word, many, listOf}
-use Rattle.reader.specs.ReaderLaws.{stands-at, stands-in, then-inv, not-broken, word-at, word-end}
+use Rattle.reader.specs.ReaderLaws.{stands-at, stands-in, then-inv}
 use Rattle.reader.specs.StepLaws.{word-read, word-none}
 use Rattle.reader.specs.Value.{Whole, valueOf}
 use Rattle.reader.specs.ValueLaws.{whole-inv, got-whole, not-whole, value-got, list-within, list-whole, list-value}
@@ -21,7 +21,9 @@ use Rattle.sheet.specs.Decode.{valueType, paramOf, someParams, paramList, argOf
 use Rattle.sheet.specs.Encode.{encodeValue}
 use Rattle.sheet.specs.Coded.{codedValue}
 use Rattle.sheet.specs.TypeCodes.{value-codes}
-use Rattle.list_rules.specs.Members.{pairsAt, valueFrom}
+use Rattle.list_members.specs.Members.{pairsAt}
+use Rattle.list_rules.specs.References.{valueFrom}
+use Rattle.list_members.proofs.MemberSteps.{word-inv}
 
 abbrev pub toParam : ℕ × ℕ → Param
 toParam x = record { flags = x .0; name+ = x .1 }
@@ -48,13 +50,6 @@ pub record Pairs {A : Type 0} (mk : ℕ × ℕ → A) (ws : List ℕ) (n p : ℕ
   pub members : xs ≡ map mk (pairsAt ws n p)
   pub inside : p + 2 * n ≤ length ws
   pub end : q ≡ p + 2 * n
-
-pub word-inv : {C : Type 0} (ws : List ℕ) (p : ℕ) {a q : ℕ} → word ws p ≡ got a q → (p < length ws → getD ws p 0 ≡ a → p + 1 ≡ q → C) → C
-word-inv {C} ws p {a} {q} e k = go (decLt p (length ws))
-  where
-    go : Dec (p < length ws) → C
-    go (yes h) = let z : got (getD ws p 0) (p + 1) ≡ got a q = sym (word-at ws p h) ∙ e in k h (cc) (cc)
-    go (no h) = absurd (not-broken (sym (word-end ws p (omega arith)) ∙ e))
 
 module _ {A : Type 0} (f : Reader A) (mk : ℕ × ℕ → A) (two : TwoWords f mk) (ws : List ℕ) where
   two-inv : {C : Type 0} (p : ℕ) (a : A) (q : ℕ) → f ws p ≡ got a q → (p + 2 ≤ length ws → a ≡ mk (getD ws p 0, getD ws (p + 1) 0) → q ≡ p + 2 → C) → C

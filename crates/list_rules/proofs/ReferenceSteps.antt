@@ -22,7 +22,7 @@ use Rattle.opening.specs.declared.Opened.{Opened}
 use Rattle.opening.specs.Ready.{Ready, posAt}
 use Rattle.opening.specs.ReadyLaws.{count-types, types-in, entry-room, entry-ends}
 use Rattle.imports.specs.Params.{takenByReference}
-use Rattle.list_rules.specs.Members.{valueFrom, referenceFits, referencesFit}
+use Rattle.list_rules.specs.References.{valueFrom, referenceFits, referencesFit}
 
 -- ── a type by its words ──
 

@@ -13,29 +13,15 @@ ghost use Rattle.imports.specs.Params.{paramListFaults};
 ghost use Rattle.funcs.specs.Shapes.{shapeFaults};
 ghost use Rattle.judging.specs.Judging.{listFaults};
 
-mod marks;
-mod members;
 mod references;
 
-use crate::marks::are_valid;
 use crate::references::references_fit;
 use blocks::word;
 use error::LoadErrorKind;
-use error::StrId;
 use error::Verdict;
+use list_marks::are_valid;
+use list_members::ListKind;
 use opening::Opened;
-
-// Whose members: of a parameter list, flags and name + 1; of a call shape, kind and name.
-pub enum ListKind {
-    Params,
-    Args,
-}
-
-// The name that is read of a member.
-pub enum Name {
-    Nothing,
-    Number(StrId),
-}
 
 // The optional parameter list at `at` beside the value types of its signature at `params_at`.
 pub fn check_params(

@@ -6,7 +6,7 @@ ghost use Rattle.blocks.specs.Frame.{firstWords};
 ghost use Rattle.layout.specs.Opened.{moduleIn};
 ghost use Rattle.opening.specs.Ready.{Ready};
 ghost use Rattle.imports.specs.Params.{takenByReference};
-ghost use Rattle.list_rules.specs.Members.{valueFrom, referenceFits, referencesFit};
+ghost use Rattle.list_rules.specs.References.{valueFrom, referenceFits, referencesFit};
 use blocks::word;
 use error::TypeId;
 use opening::Opened;

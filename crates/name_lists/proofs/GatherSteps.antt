@@ -22,9 +22,9 @@ use Rattle.region.specs.RegionLaws.{frame-refl, frame-then}
 use Rattle.opening.specs.declared.Opened.{Opened}
 use Rattle.opening.specs.Ready.{Ready, posAt}
 use Rattle.opening.specs.ReadyLaws.{strings-inside, ready-below, string-canon}
-use Rattle.name_lists.specs.Merge.{pairsAt}
-use Rattle.name_lists.specs.PairLaws.{pairs-kept, pairs-more}
-use Rattle.name_lists.specs.Steps.{Paired, Gathered}
+use Rattle.name_sorting.specs.Merge.{pairsAt}
+use Rattle.name_sorting.specs.PairLaws.{pairs-kept, pairs-more}
+use Rattle.name_sorting.specs.Steps.{Paired, Gathered}
 use Rattle.name_lists.specs.Names.{namedFields, slotPairs, methodPairs, nameFaults, methodsFaults}
 use Rattle.name_lists.proofs.Members.{Twos, noField, noMethod, fields-stand, methods-stand, named-length, field-word, field-in, method-word, method-func, method-in}
 

@@ -1,5 +1,3 @@
-pub mod MergeSteps
-pub mod SortSteps
 pub mod WriteSteps
 pub mod Members
 pub mod GatherSteps

@@ -17,8 +17,8 @@ use Rattle.writing.specs.Writing.{written}
 use Rattle.opening.specs.declared.Opened.{Opened}
 use Rattle.opening.specs.Ready.{Ready}
 use Rattle.table.specs.Records.{byName}
-use Rattle.name_lists.specs.Merge.{pairsAt}
-use Rattle.name_lists.specs.Steps.{Room, Gathered}
+use Rattle.name_sorting.specs.Merge.{pairsAt}
+use Rattle.name_sorting.specs.Steps.{Room, Gathered}
 use Rattle.name_lists.specs.Names.{namedFields, slotPairs, methodPairs, fieldList, methodList, pairWords}
 use Rattle.name_lists.proofs.Members.{fields-stand, methods-stand, named-length}
 use Rattle.name_lists.proofs.GatherSteps.{slots-length, methods-length}

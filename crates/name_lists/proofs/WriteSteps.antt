@@ -11,10 +11,10 @@ use Rattle.region.specs.Region.{Frame}
 use Rattle.writing.specs.Writing.{written, wordsOf, Writes}
 use Rattle.writing.specs.WritingLaws.{written-then, written-length, writes-start, writes-next, writes-end, writes-length}
 use Rattle.table.specs.Records.{byName}
-use Rattle.name_lists.specs.Merge.{pairsAt}
-use Rattle.name_lists.specs.PairLaws.{pairs-length, pairs-at}
+use Rattle.name_sorting.specs.Merge.{pairsAt}
+use Rattle.name_sorting.specs.PairLaws.{pairs-length, pairs-at}
 use Rattle.name_lists.specs.Names.{pairWords}
-use Rattle.name_lists.specs.Steps.{Room, Sorted}
+use Rattle.name_sorting.specs.Steps.{Room, Sorted}
 
 -- ── one pair ──
 

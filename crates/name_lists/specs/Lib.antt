@@ -1,6 +1,2 @@
-pub mod Merge
-pub mod MergeLaws
-pub mod Steps
-pub mod PairLaws
 pub mod Names
 pub mod NameLaws

@@ -15,19 +15,17 @@ ghost use Rattle.region.specs.Region.{Frame};
 ghost use Rattle.writing.specs.Writing.{written, wordsOf};
 ghost use Rattle.opening.specs.Ready.{Ready};
 ghost use Rattle.table.specs.Records.{byName};
-ghost use Rattle.name_lists.specs.Merge.{pairsAt};
-ghost use Rattle.name_lists.specs.Steps.{Paired, Room, Gathered};
+ghost use Rattle.name_sorting.specs.Merge.{pairsAt};
+ghost use Rattle.name_sorting.specs.Steps.{Paired, Room, Gathered};
 ghost use Rattle.name_lists.specs.Names.{namedFields, slotPairs, methodPairs, fieldList, methodList, pairWords, nameFaults, methodsFaults};
-use crate::pairs::sort_names;
 use blocks::word;
 use error::StrId;
+use name_sorting::sort_names;
 use opening::Opened;
 use opening::canon_string;
 use region::least;
 use region::put;
 use writing::push;
-
-pub mod pairs;
 
 fn push_pair(work: &[u32], a: usize, table: &mut [u32], at: usize) -> usize
     requires { ⌜ (a + 1 < length (now work)) × (at + 1 < length (now table)) ⌝ }

@@ -1,42 +1,9 @@
-// What each operation code wants: the kinds of its slots, whether it terminates, its own rule; and an instruction's parts.
+// What each operation code wants besides its fields: whether it terminates, its own rule.
 ghost use mathlib.Core.Path.{_≡_};
 ghost use Prim.Native.Nat.{_<_};
-ghost use Rattle.blocks.specs.Frame.{firstWords};
-ghost use Rattle.reader.specs.Value.{Whole, valueOf};
-ghost use Rattle.sheet.specs.Module.{opcode, slotA, slotB, slotC, slotD, slotW};
-ghost use Rattle.sheet.specs.Decode.{instOf};
 ghost use Rattle.code.specs.Opcodes.{row};
-ghost use Rattle.code.specs.Code.{unreachable};
-ghost use Rattle.opcodes.specs.Slots.{placeOf, kindIn, ruleOf, inst};
-use blocks::word;
-use code::FieldKind;
-use code::FieldKind::Const;
-use code::FieldKind::Func;
-use code::FieldKind::Global;
-use code::FieldKind::Import;
-use code::FieldKind::Name;
-use code::FieldKind::Reg;
-use code::FieldKind::Shape;
-use code::FieldKind::Table;
-use code::FieldKind::Target;
-use code::FieldKind::TypeRef;
-use code::FieldKind::Unused;
-use code::FieldKind::Upval;
+ghost use Rattle.opcodes.specs.Rules.{ruleOf};
 use error::TypeKind;
-
-// An instruction's two words.
-pub struct Inst {
-    pub low: u32,
-    pub high: u32,
-}
-
-// The slots that number something.
-pub enum Slot {
-    A,
-    B,
-    W,
-    C,
-}
 
 // What an instruction has to keep besides its fields.
 pub enum Rule {
@@ -57,45 +24,6 @@ pub enum Rule {
     Catchable,
     WideBits,
 }
-
-// A, B, W, C of each code.
-const FIELDS: [[FieldKind; 4]; 35] = [
-    [Unused, Unused, Unused, Unused], // 0 Unreachable
-    [Unused, Unused, Unused, Unused], // 1 RetVoid
-    [Reg, Unused, Unused, Unused], // 2 Ret
-    [Reg, Unused, Unused, Unused], // 3 Throw
-    [Unused, Unused, Target, Unused], // 4 Jmp
-    [Reg, Unused, Target, Unused], // 5 branch
-    [Reg, Unused, Table, Unused], // 6 Switch
-    [Reg, Unused, Func, Unused], // 7 TailCall
-    [Reg, Reg, Unused, Unused], // 8 TailCallIndirect
-    [Reg, Reg, Unused, Reg], // 9 IAdd
-    [Reg, Reg, Unused, Reg], // 10 DAdd
-    [Reg, Unused, Const, Unused], // 11 constant
-    [Reg, Unused, Global, Unused], // 12 global
-    [Reg, Reg, Unused, Name], // 13 name
-    [Reg, Upval, Unused, Unused], // 14 capture
-    [Reg, Unused, Func, Unused], // 15 Call
-    [Reg, Reg, Unused, Unused], // 16 CallIndirect
-    [Reg, Reg, Unused, Unused], // 17 DCall
-    [Reg, Reg, Unused, Unused], // 18 CoroNewIndirect
-    [Reg, Reg, Unused, Unused], // 19 Spawn
-    [Reg, Unused, Func, Unused], // 20 CoroNew
-    [Reg, Unused, Import, Unused], // 21 CallImport
-    [Reg, Unused, Func, Unused], // 22 MakeClosure
-    [Reg, Shape, Unused, Unused], // 23 DCallShape
-    [Reg, TypeRef, Unused, Unused], // 24 NewStruct
-    [Reg, TypeRef, Unused, Unused], // 25 NewArray
-    [Reg, TypeRef, Unused, Unused], // 26 NewMap
-    [Reg, TypeRef, Unused, Unused], // 27 NewCell
-    [Reg, Reg, Unused, Unused], // 28 StrConcatN
-    [Reg, Reg, Unused, Reg], // 29 StrSlice
-    [Reg, Reg, Unused, Unused], // 30 FromDyn
-    [Reg, Unused, Unused, Unused], // 31 Raise
-    [Reg, Reg, Unused, Unused], // 32 FloatToBits
-    [Reg, Reg, Unused, Unused], // 33 BitsToFloat
-    [Reg, Reg, Unused, Unused], // 34 move
-];
 
 const TERMINATES: [bool; 35] = [
     true, // 0 Unreachable
@@ -173,27 +101,6 @@ const RULES: [Rule; 35] = [
     Rule::Free, // 34 move
 ];
 
-fn place(slot: Slot) -> usize
-    ensures { λ r. ⌜ r ≡ placeOf slot ⌝ }
-{
-    match slot {
-        Slot::A => 0,
-        Slot::B => 1,
-        Slot::W => 2,
-        Slot::C => 3,
-    }
-}
-
-// The kind of a code's slot.
-pub fn field_kind(code: u32, slot: Slot) -> FieldKind
-    requires { ⌜ code < 35 ⌝ }
-    ensures { λ r. ⌜ r ≡ kindIn (row code) slot ⌝ }
-{
-    let i = code as usize;
-    let k = place(slot);
-    FIELDS[i][k]
-}
-
 // The code ends a run of instructions.
 pub fn terminates(code: u32) -> bool
     requires { ⌜ code < 35 ⌝ }
@@ -207,57 +114,4 @@ pub fn rule_of(code: u32) -> Rule
     ensures { λ r. ⌜ ruleOf r ≡ row code .rule ⌝ }
 {
     RULES[code as usize]
-}
-
-// The instruction at a position, with a listed code.
-pub fn read_inst(sheet: &[u8], n: usize, at: usize) -> Inst
-    requires { ⌜ Whole (instOf (firstWords (now sheet) n) at) ⌝ }
-    ensures { λ r. ⌜ inst r ≡ valueOf unreachable (instOf (firstWords (now (sheet .entry)) n) at) ⌝ }
-    ensures { λ r. ⌜ opcode (inst r) < 35 ⌝ }
-{
-    Inst {
-        low: word(sheet, at),
-        high: word(sheet, at + 1),
-    }
-}
-
-// Bits 0-7, 8-15 and 16-31 of the low word; 0-15, 16-31 and all of the high word.
-pub fn opcode(i: Inst) -> u32
-    ensures { λ r. ⌜ r ≡ opcode (inst i) ⌝ }
-{
-    i.low % 256
-}
-
-pub fn slot_d(i: Inst) -> u32
-    ensures { λ r. ⌜ r ≡ slotD (inst i) ⌝ }
-    ensures { λ r. ⌜ r < 256 ⌝ }
-{
-    i.low / 256 % 256
-}
-
-pub fn slot_a(i: Inst) -> u32
-    ensures { λ r. ⌜ r ≡ slotA (inst i) ⌝ }
-    ensures { λ r. ⌜ r < 65536 ⌝ }
-{
-    i.low / 65536
-}
-
-pub fn slot_b(i: Inst) -> u32
-    ensures { λ r. ⌜ r ≡ slotB (inst i) ⌝ }
-    ensures { λ r. ⌜ r < 65536 ⌝ }
-{
-    i.high % 65536
-}
-
-pub fn slot_c(i: Inst) -> u32
-    ensures { λ r. ⌜ r ≡ slotC (inst i) ⌝ }
-    ensures { λ r. ⌜ r < 65536 ⌝ }
-{
-    i.high / 65536
-}
-
-pub fn slot_w(i: Inst) -> u32
-    ensures { λ r. ⌜ r ≡ slotW (inst i) ⌝ }
-{
-    i.high
 }

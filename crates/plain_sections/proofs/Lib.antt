@@ -1,4 +1,3 @@
 pub mod RowSteps
 pub mod ImportSteps
 pub mod CanonSteps
-pub mod BindSteps

@@ -33,8 +33,8 @@ use Rattle.opening.specs.ReadyLaws.{count-types, types-in, entry-room, entry-wh
 use Rattle.types.specs.Types.{valueFaults, sigFaults, typeFaults, typesFaults}
 use Rattle.judging.specs.Judging.{listFaults}
 use Rattle.judging.specs.Clearing.{Clears, clears-start, clears-holds, clears-pass, clears-stop}
-use Rattle.type_rules.proofs.Sizes.{value-takes, list-takes}
-use Rattle.type_rules.proofs.ValueRules.{value-in}
+use Rattle.value_rules.proofs.Sizes.{value-takes, list-takes}
+use Rattle.value_rules.proofs.ValueRules.{value-in}
 
 -- ── a func type: parameters, results ──
 

@@ -8,13 +8,13 @@ ghost use Rattle.sheet.specs.Decode.{funcType, ofTwo, typeDef};
 ghost use Rattle.layout.specs.Opened.{moduleIn};
 ghost use Rattle.opening.specs.Ready.{Opens};
 ghost use Rattle.types.specs.Types.{typeFaults};
-use crate::check_value;
-use crate::check_values;
-use crate::structs::check_struct;
 use blocks::word;
 use error::LoadErrorKind;
 use error::Verdict;
 use opening::Opened;
+use struct_rules::check_struct;
+use value_rules::check_value;
+use value_rules::check_values;
 
 // What follows a func type's kind word: at most one result before anything else, then parameters, then the result.
 pub fn check_sig(sheet: &[u8], o: Opened, at: usize) -> Verdict

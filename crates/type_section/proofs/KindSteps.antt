@@ -25,8 +25,9 @@ use Rattle.layout.specs.Opened.{moduleIn}
 use Rattle.param_registers.specs.ValueWords.{value-within}
 use Rattle.table.specs.Records.{structRecord, typeBody}
 use Rattle.writing.specs.Writing.{written}
-use Rattle.type_section.specs.TypeParts.{Sound, structIn, structAt, oneAt, twoAt, bodyAt}
-use Rattle.type_section.proofs.Joins.{Put, front-room, put-is, put-none, put-room, put-then}
+use Rattle.struct_section.specs.StructParts.{Sound, structIn, structAt}
+use Rattle.type_section.specs.TypeParts.{oneAt, twoAt, bodyAt}
+use Rattle.struct_section.proofs.Joins.{Put, front-room, put-is, put-none, put-room, put-then}
 
 -- ── one value type, and two ──
 

@@ -23,8 +23,9 @@ use Rattle.opening.specs.ReadyLaws.{count-types, types-in, entry-room, entry-wh
 use Rattle.table.specs.Records.{typeBody, typeRecord}
 use Rattle.writing.specs.Writing.{wordsOf, Writes}
 use Rattle.writing.specs.WritingLaws.{words-are, written-length, writes-start, writes-next, writes-end, writes-place, writes-length, writes-room}
-use Rattle.type_section.specs.TypeParts.{Sound, bodyAt}
-use Rattle.type_section.proofs.Joins.{Put, front-room, put-is, put-room, put-then, frame-both, ready-still}
+use Rattle.struct_section.specs.StructParts.{Sound}
+use Rattle.type_section.specs.TypeParts.{bodyAt}
+use Rattle.struct_section.proofs.Joins.{Put, front-room, put-is, put-room, put-then, frame-both, ready-still}
 use Rattle.type_section.proofs.KindSteps.{type-kind}
 
 -- ── type t ──

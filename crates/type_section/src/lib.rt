@@ -1,4 +1,4 @@
-// The sections of types and of globals of the linked table.
+// The section of types of the linked table.
 ghost use mathlib.Core.Path.{_≡_};
 ghost use mathlib.Core.List.{[]};
 ghost use Prim.Native.Nat.{_+_, _*_, _≤_, _<_};
@@ -8,25 +8,20 @@ ghost use Rattle.reader.specs.Reader.{encodeList};
 ghost use Rattle.sheet.specs.Module.{dyn, coroutine, typeAt};
 ghost use Rattle.sheet.specs.Decode.{valueType, typeDef};
 ghost use Rattle.types.specs.Types.{valueFaults, typeFaults, typesFaults};
-ghost use Rattle.imports.specs.Imports.{globalsFaults};
 ghost use Rattle.layout.specs.Opened.{moduleIn};
 ghost use Rattle.region.specs.Region.{Frame};
-ghost use Rattle.opening.specs.Ready.{Opens, Ready};
+ghost use Rattle.opening.specs.Ready.{Ready};
 ghost use Rattle.table.specs.Records.{typeRecord};
-ghost use Rattle.table.specs.Table.{globalSection, referenceSection};
 ghost use Rattle.writing.specs.Writing.{written};
-ghost use Rattle.type_section.specs.TypeParts.{Sound, oneAt, twoAt, bodyAt};
-use crate::structs::write_struct;
+ghost use Rattle.struct_section.specs.StructParts.{Sound};
+ghost use Rattle.type_section.specs.TypeParts.{oneAt, twoAt, bodyAt};
 use blocks::word;
 use error::TypeId;
 use opening::Opened;
 use opening::type_at;
 use param_registers::canon_at;
-use value_lists::write_references;
-use value_lists::write_values;
+use struct_section::write_struct;
 use writing::push;
-
-pub mod structs;
 
 // The canonical word of the value type at position q.
 fn write_one(sheet: &[u8], work: &[u32], o: Opened, q: usize, table: &mut [u32], at: usize) -> usize
@@ -118,38 +113,4 @@ pub fn write_types(sheet: &[u8], work: &mut [u32], o: Opened, table: &mut [u32],
         i += 1;
     }
     p
-}
-
-// The count, then the canonical word of each global's type.
-pub fn write_globals(sheet: &[u8], work: &[u32], o: Opened, table: &mut [u32], at: usize) -> usize
-    requires { ⌜ Ready (firstWords (now sheet) (o .layout .words)) (now work) o ⌝ }
-    requires { ⌜ globalsFaults (moduleIn (firstWords (now sheet) (o .layout .words))) ≡ [] ⌝ }
-    requires { ⌜ at + length (globalSection (moduleIn (firstWords (now sheet) (o .layout .words)))) ≤ length (now table) ⌝ }
-    ensures { λ r. ⌜ now (table .exit) ≡ written (now (table .entry)) at (globalSection (moduleIn (firstWords (now (sheet .entry)) (o .layout .words)))) ⌝ }
-    ensures { λ r. ⌜ r ≡ at + length (globalSection (moduleIn (firstWords (now (sheet .entry)) (o .layout .words)))) ⌝ }
-{
-    let globals = o.layout.globals;
-    let count = o.counts.globals;
-    write_values(sheet, work, o, globals + 1, 2, count, table, at)
-}
-
-// The count, then the numbers of the globals that hold a reference.
-pub fn write_global_references(sheet: &[u8], o: Opened, table: &mut [u32], at: usize) -> usize
-    requires { ⌜ Opens (firstWords (now sheet) (o .layout .words)) o ⌝ }
-    requires { ⌜ at + length (referenceSection (moduleIn (firstWords (now sheet) (o .layout .words)))) ≤ length (now table) ⌝ }
-    ensures { λ r. ⌜ now (table .exit) ≡ written (now (table .entry)) at (referenceSection (moduleIn (firstWords (now (sheet .entry)) (o .layout .words)))) ⌝ }
-    ensures { λ r. ⌜ r ≡ at + length (referenceSection (moduleIn (firstWords (now (sheet .entry)) (o .layout .words)))) ⌝ }
-{
-    let globals = o.layout.globals;
-    let count = o.counts.globals;
-    write_references(
-        sheet,
-        o.layout.words,
-        globals + 1,
-        2,
-        count,
-        4294967295,
-        table,
-        at,
-    )
 }

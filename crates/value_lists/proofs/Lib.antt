@@ -1,3 +1,2 @@
 pub mod ValueSteps
-pub mod NumberSteps
 pub mod PlaceSteps

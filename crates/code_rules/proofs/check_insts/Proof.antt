@@ -6,7 +6,7 @@ use mathlib.Core.Path.{refl}
 use Rattle.blocks.specs.Frame.{firstWords}
 use Rattle.code_rules.proofs.check_insts.Statement.{statement}
 use Rattle.code_rules.proofs.InstSteps.{Sweeps, sweeping, sweeps-room, sweeps-next, sweeps-stop}
-use Rattle.code_rules.proofs.LastSteps.{code-inside, inst-whole}
+use Rattle.code_parts.proofs.LastSteps.{code-inside, inst-whole}
 use Rattle.code_rules.proofs.check_insts.Tie as tie
 
 abbrev Inv-loop : tie.InvT-loop

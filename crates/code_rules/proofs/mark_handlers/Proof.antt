@@ -4,8 +4,8 @@ use native.Mathlib.Omega.{arith}
 use Rattle.blocks.specs.Frame.{firstWords}
 use Rattle.code_rules.proofs.mark_handlers.Statement.{statement}
 use Rattle.code_rules.proofs.MarkSteps.{Marks, marks-begin, marks-done, marks-length, marks-fit, marking}
-use Rattle.code_rules.proofs.LastSteps.{code-inside}
-use Rattle.code_rules.proofs.HandlerSteps.{handlers-within}
+use Rattle.code_parts.proofs.LastSteps.{code-inside}
+use Rattle.code_parts.proofs.HandlerSteps.{handlers-within}
 use Rattle.code_rules.proofs.mark_handlers.Tie as tie
 
 abbrev Inv-loop : tie.InvT-loop

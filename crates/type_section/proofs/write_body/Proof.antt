@@ -2,7 +2,7 @@
 use borrow.Author.Needs.{needs}
 use native.Mathlib.Omega.{arith}
 use Rattle.region.specs.RegionLaws.{frame-refl}
-use Rattle.type_section.proofs.Joins.{put}
+use Rattle.struct_section.proofs.Joins.{put}
 use Rattle.type_section.proofs.KindSteps.{type-in, struct-sound, struct-body, array-sound, array-body, map-key, map-value, map-body, cell-sound, cell-body, iter-key, iter-value, iter-body, rest-body, body-room, body-put, nothing-put}
 use Rattle.type_section.proofs.write_body.Statement.{statement}
 use Rattle.type_section.proofs.write_body.Tie as tie

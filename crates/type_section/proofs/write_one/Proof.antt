@@ -1,6 +1,6 @@
 -- `type_section::write_one` meets its contract.
 use borrow.Author.Needs.{needs}
-use Rattle.type_section.proofs.Joins.{put-one}
+use Rattle.struct_section.proofs.Joins.{put-one}
 use Rattle.type_section.proofs.KindSteps.{one-room, one-put}
 use Rattle.type_section.proofs.write_one.Statement.{statement}
 use Rattle.type_section.proofs.write_one.Tie as tie

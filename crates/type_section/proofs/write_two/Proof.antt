@@ -1,7 +1,7 @@
 -- `type_section::write_two` meets its contract.
 use borrow.Author.Needs.{needs}
 use native.Mathlib.Omega.{arith}
-use Rattle.type_section.proofs.Joins.{put}
+use Rattle.struct_section.proofs.Joins.{put}
 use Rattle.type_section.proofs.KindSteps.{value-in, key-room, value-room, two-put}
 use Rattle.type_section.proofs.write_two.Statement.{statement}
 use Rattle.type_section.proofs.write_two.Tie as tie

@@ -2,7 +2,7 @@
 use borrow.Author.Needs.{needs}
 use Prim.Native.Nat.{_-_}
 use Rattle.blocks.specs.Frame.{firstWords}
-use Rattle.type_section.proofs.Joins.{put, put-one}
+use Rattle.struct_section.proofs.Joins.{put, put-one}
 use Rattle.type_section.proofs.TypeSteps.{Types, types-start, types-ready, count-room, types-length, next-room, types-next, types-put}
 use Rattle.type_section.proofs.write_types.Statement.{statement}
 use Rattle.type_section.proofs.write_types.Tie as tie

@@ -1,0 +1,5 @@
+pub mod Sizes
+pub mod HandlerSteps
+pub mod TableSteps
+pub mod LastSteps
+pub mod PartSteps

@@ -1,0 +1,11 @@
+-- `insts::slot_a` meets its contract.
+use native.Mathlib.Omega.{arith}
+use Rattle.insts.proofs.InstSteps.{a-of}
+use Rattle.insts.proofs.slot_a.Statement.{statement}
+use Rattle.insts.proofs.slot_a.Tie as tie
+
+returns : tie.Need-returns
+returns c = (a-of _, omega (arith, c .struct-known .given))
+
+pub slot-a-spec : {M : Type 1} → statement M
+slot-a-spec = tie.close (tie.spec returns)

@@ -1,0 +1,23 @@
+-- Rules as code has them.
+use Rattle.code.specs.Opcodes as definitions
+use Rattle.opcodes.specs.declared.Rule.{Rule}
+use Rattle.opcodes.specs.declared.Rule.the-variants.{Free, NoPromote, PromoteToDyn, TailCall, TailCallIndirect, Call, CallIndirect, CallImport, CallShape, MakeClosure, OfKind, Concatenate, Slice, NotToRef, Catchable, WideBits}
+
+-- a rule as the definitions have it
+unfoldable pub ruleOf : Rule → definitions.Rule
+ruleOf Free = definitions.free
+ruleOf NoPromote = definitions.noPromote
+ruleOf PromoteToDyn = definitions.promoteToDyn
+ruleOf TailCall = definitions.tailCall
+ruleOf TailCallIndirect = definitions.tailCallIndirect
+ruleOf Call = definitions.call
+ruleOf CallIndirect = definitions.callIndirect
+ruleOf CallImport = definitions.callImport
+ruleOf CallShape = definitions.callShape
+ruleOf MakeClosure = definitions.makeClosure
+ruleOf (OfKind k) = definitions.ofKind k
+ruleOf Concatenate = definitions.concatenate
+ruleOf Slice = definitions.slice
+ruleOf NotToRef = definitions.notToRef
+ruleOf Catchable = definitions.catchable
+ruleOf WideBits = definitions.wideBits

@@ -1,0 +1,2 @@
+pub mod TypeWords
+pub mod ChainSteps

@@ -1,0 +1,2 @@
+pub mod ConstSteps
+pub mod TailSteps

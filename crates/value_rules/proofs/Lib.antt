@@ -1,0 +1,3 @@
+pub mod Sizes
+pub mod ValueRules
+pub mod NumberRules
