@@ -27,9 +27,8 @@ use Rattle.opening.specs.ReadyLaws.{types-in, count-types}
 use Rattle.judging.specs.Clearing.{Clears, clears-start, clears-next, clears-holds, clears-stop}
 use Rattle.parents.specs.Forest.{other, sub, entry}
 use Rattle.parents.specs.Parents.{fieldWords, fieldsFirst, shortChain, childFaults, parentFaults, parentsFaults}
-use Rattle.parent_chains.specs.Child.{parentWord, extends}
-use Rattle.parent_rules.specs.Scan.{scanFaults}
-use Rattle.parent_chains.proofs.ChainSteps.{entry-none, entry-sub}
+use Rattle.parent_rules.specs.Child.{parentWord, extends, scanFaults}
+use Rattle.parent_rules.proofs.ChainSteps.{entry-none, entry-sub}
 
 -- ── what is broken in one type ──
 

@@ -1,24 +1,109 @@
 // Rule 3 in code: parents, per type.
 ghost use mathlib.Core.Path.{_≡_};
 ghost use Prim.Native.Nat.{_<_};
+ghost use lib.ListN.{length, getD};
 ghost use Rattle.blocks.specs.Frame.{firstWords};
 ghost use Rattle.error.specs.Verdict.{verdictOf, judgedOf};
+ghost use Rattle.sheet.specs.Module.{typeAt, structOf, isStruct};
+ghost use Rattle.sheet.specs.Encode.{encodeType};
 ghost use Rattle.layout.specs.Opened.{moduleIn};
 ghost use Rattle.opening.specs.Ready.{Ready};
 ghost use Rattle.parents.specs.Forest.{chain};
-ghost use Rattle.parents.specs.Parents.{parentsFaults};
-ghost use Rattle.parent_rules.specs.Scan.{scanFaults};
+ghost use Rattle.parents.specs.Parents.{fieldWords, shortChain, parentsFaults};
+ghost use Rattle.parent_rules.specs.Child.{parentWord, extends, scanFaults};
+use blocks::word;
 use error::Judged;
 use error::LoadErrorKind;
 use error::TypeId;
 use error::Verdict;
 use error::in_module;
 use opening::Opened;
-use parent_chains::count_words;
-use parent_chains::field_word;
-use parent_chains::is_chain_short;
-use parent_chains::may_extend;
-use parent_chains::parent_of;
+use opening::type_at;
+
+// Word i of type t.
+fn type_word(sheet: &[u8], work: &[u32], o: Opened, t: TypeId, i: usize) -> u32
+    requires { ⌜ Ready (firstWords (now sheet) (o .layout .words)) (now work) o ⌝ }
+    requires { ⌜ t .0 < o .counts .types ⌝ }
+    requires { ⌜ i < length (encodeType (typeAt (moduleIn (firstWords (now sheet) (o .layout .words)) .types) (t .0))) ⌝ }
+    ensures { λ r. ⌜ r ≡ getD (encodeType (typeAt (moduleIn (firstWords (now (sheet .entry)) (o .layout .words)) .types) (t .0))) i 0 ⌝ }
+{
+    word(sheet, type_at(work, o, t) + i)
+}
+
+pub fn is_struct(sheet: &[u8], work: &[u32], o: Opened, t: TypeId) -> bool
+    requires { ⌜ Ready (firstWords (now sheet) (o .layout .words)) (now work) o ⌝ }
+    ensures { λ r. ⌜ r ≡ isStruct (typeAt (moduleIn (firstWords (now (sheet .entry)) (o .layout .words)) .types) (t .0)) ⌝ }
+{
+    if t.0 < o.counts.types {
+        return type_word(sheet, work, o, t, 0) == 1;
+    }
+    false
+}
+
+// The parent + 1; 0 for none, and of what is no struct.
+pub fn parent_of(sheet: &[u8], work: &[u32], o: Opened, t: TypeId) -> u32
+    requires { ⌜ Ready (firstWords (now sheet) (o .layout .words)) (now work) o ⌝ }
+    ensures { λ r. ⌜ r ≡ parentWord (typeAt (moduleIn (firstWords (now (sheet .entry)) (o .layout .words)) .types) (t .0)) ⌝ }
+{
+    if is_struct(sheet, work, o, t) {
+        return type_word(sheet, work, o, t, 2);
+    }
+    0
+}
+
+// How many words the fields take.
+fn count_words(sheet: &[u8], work: &[u32], o: Opened, t: TypeId) -> usize
+    requires { ⌜ Ready (firstWords (now sheet) (o .layout .words)) (now work) o ⌝ }
+    ensures { λ r. ⌜ r ≡ length (fieldWords (structOf (typeAt (moduleIn (firstWords (now (sheet .entry)) (o .layout .words)) .types) (t .0)))) ⌝ }
+{
+    if is_struct(sheet, work, o, t) {
+        return 2 * type_word(sheet, work, o, t, 3) as usize;
+    }
+    0
+}
+
+// Word i of the fields.
+fn field_word(sheet: &[u8], work: &[u32], o: Opened, t: TypeId, i: usize) -> u32
+    requires { ⌜ Ready (firstWords (now sheet) (o .layout .words)) (now work) o ⌝ }
+    requires { ⌜ i < length (fieldWords (structOf (typeAt (moduleIn (firstWords (now sheet) (o .layout .words)) .types) (t .0)))) ⌝ }
+    ensures { λ r. ⌜ r ≡ getD (fieldWords (structOf (typeAt (moduleIn (firstWords (now (sheet .entry)) (o .layout .words)) .types) (t .0)))) i 0 ⌝ }
+{
+    type_word(sheet, work, o, t, 4 + i)
+}
+
+// The numbers met from t up through declared parents, at most `left`.
+fn chain_length(sheet: &[u8], work: &[u32], o: Opened, t: TypeId, left: u32) -> u32
+    requires { ⌜ Ready (firstWords (now sheet) (o .layout .words)) (now work) o ⌝ }
+    ensures { λ r. ⌜ r ≡ length (chain (moduleIn (firstWords (now (sheet .entry)) (o .layout .words)) .types) left (t .0)) ⌝ }
+{
+    if left == 0 {
+        return 0;
+    }
+    let p = parent_of(sheet, work, o, t);
+    if p == 0 {
+        return 1;
+    }
+    chain_length(sheet, work, o, TypeId(p - 1), left - 1) + 1
+}
+
+fn is_chain_short(sheet: &[u8], work: &[u32], o: Opened, t: TypeId, most: u32) -> bool
+    requires { ⌜ Ready (firstWords (now sheet) (o .layout .words)) (now work) o ⌝ }
+    requires { ⌜ most < 4294967295 ⌝ }
+    ensures { λ r. ⌜ r ≡ shortChain most (moduleIn (firstWords (now (sheet .entry)) (o .layout .words)) .types) (t .0) ⌝ }
+{
+    chain_length(sheet, work, o, t, most + 1) <= most
+}
+
+// The parent is a struct with no more fields than the child.
+fn may_extend(sheet: &[u8], work: &[u32], o: Opened, child: TypeId, parent: TypeId) -> bool
+    requires { ⌜ Ready (firstWords (now sheet) (o .layout .words)) (now work) o ⌝ }
+    ensures { λ r. ⌜ r ≡ extends (moduleIn (firstWords (now (sheet .entry)) (o .layout .words)) .types) (parent .0) (child .0) ⌝ }
+{
+    if is_struct(sheet, work, o, parent) {
+        return count_words(sheet, work, o, parent) <= count_words(sheet, work, o, child);
+    }
+    false
+}
 
 // Type by type: the parent is fit, its fields are the first of the child's, the chain is short.
 fn scan_parents(sheet: &[u8], work: &[u32], o: Opened, most: u32) -> Verdict

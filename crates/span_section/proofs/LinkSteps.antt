@@ -22,7 +22,7 @@ use Rattle.opening.specs.Ready.{Ready}
 use Rattle.opening.specs.ReadyLaws.{count-types, types-inside, ready-below}
 use Rattle.parents.specs.Forest.{Entry, other, root, sub, structEntry, entryOf, entry, entryAt}
 use Rattle.parents.specs.Parents.{mostOnChain, parentsFaults}
-use Rattle.parent_chains.specs.Child.{parentOf, parentWord}
+use Rattle.parent_rules.specs.Child.{parentOf, parentWord}
 use Rattle.spans.specs.Spans.{isRoot, isChildOf, numbersOf, roots, children}
 use Rattle.forest.specs.Entries.{isStructEntry, struct-entry}
 use Rattle.forest.specs.Accepted.{children-kept}

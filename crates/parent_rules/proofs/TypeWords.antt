@@ -26,7 +26,7 @@ use Rattle.opening.specs.declared.Opened.{Opened}
 use Rattle.opening.specs.Ready.{Ready, posAt}
 use Rattle.opening.specs.ReadyLaws.{types-in, entry-room, entry-ends, count-types}
 use Rattle.parents.specs.Parents.{fieldWords}
-use Rattle.parent_chains.specs.Child.{parentOf, parentWord}
+use Rattle.parent_rules.specs.Child.{parentOf, parentWord}
 
 -- ── where a type's words stand ──
 

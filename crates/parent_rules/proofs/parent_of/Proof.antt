@@ -1,8 +1,8 @@
--- `parent_chains::parent_of` meets its contract.
+-- `parent_rules::parent_of` meets its contract.
 use borrow.Author.Needs.{needs}
-use Rattle.parent_chains.proofs.TypeWords.{struct-in, struct-long, parent-read, parent-none}
-use Rattle.parent_chains.proofs.parent_of.Statement.{statement}
-use Rattle.parent_chains.proofs.parent_of.Tie as tie
+use Rattle.parent_rules.proofs.TypeWords.{struct-in, struct-long, parent-read, parent-none}
+use Rattle.parent_rules.proofs.parent_of.Statement.{statement}
+use Rattle.parent_rules.proofs.parent_of.Tie as tie
 
 is-struct-requires : tie.Need-is-struct-requires
 is-struct-requires c κs = search needs

@@ -1,9 +1,9 @@
--- `parent_chains::type_word` meets its contract.
+-- `parent_rules::type_word` meets its contract.
 use borrow.Author.Needs.{needs}
 use native.Mathlib.Omega.{arith}
-use Rattle.parent_chains.proofs.TypeWords.{type-room, word-small, word-is}
-use Rattle.parent_chains.proofs.type_word.Statement.{statement}
-use Rattle.parent_chains.proofs.type_word.Tie as tie
+use Rattle.parent_rules.proofs.TypeWords.{type-room, word-small, word-is}
+use Rattle.parent_rules.proofs.type_word.Statement.{statement}
+use Rattle.parent_rules.proofs.type_word.Tie as tie
 
 type-at-requires : tie.Need-type-at-requires
 type-at-requires c κs = search (needs, type-room)

@@ -12,7 +12,7 @@ use Rattle.lists.specs.Lists.{concatMap}
 use Rattle.sheet.specs.Module.{Struct, TypeDef, typeAt, structOf, isStruct}
 use Rattle.parents.specs.Forest.{Entry, other, root, sub, structEntry, entryOf, entry, entryAt, parents, walk, chain}
 use Rattle.parents.specs.Parents.{fieldWords, shortChain}
-use Rattle.parent_chains.specs.Child.{parentOf, parentWord, extends}
+use Rattle.parent_rules.specs.Child.{parentOf, parentWord, extends}
 
 -- ── the declared parent ──
 

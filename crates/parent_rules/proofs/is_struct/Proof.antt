@@ -1,8 +1,8 @@
--- `parent_chains::is_struct` meets its contract.
+-- `parent_rules::is_struct` meets its contract.
 use borrow.Author.Needs.{needs}
-use Rattle.parent_chains.proofs.TypeWords.{kind-first, kind-test, kind-none}
-use Rattle.parent_chains.proofs.is_struct.Statement.{statement}
-use Rattle.parent_chains.proofs.is_struct.Tie as tie
+use Rattle.parent_rules.proofs.TypeWords.{kind-first, kind-test, kind-none}
+use Rattle.parent_rules.proofs.is_struct.Statement.{statement}
+use Rattle.parent_rules.proofs.is_struct.Tie as tie
 
 type-word-requires : tie.Need-type-word-requires
 type-word-requires c κs = search (needs, kind-first)

@@ -1,9 +1,9 @@
--- `parent_chains::field_word` meets its contract.
+-- `parent_rules::field_word` meets its contract.
 use borrow.Author.Needs.{needs}
 use native.Mathlib.Omega.{arith}
-use Rattle.parent_chains.proofs.TypeWords.{field-type, field-long, field-read, field-small}
-use Rattle.parent_chains.proofs.field_word.Statement.{statement}
-use Rattle.parent_chains.proofs.field_word.Tie as tie
+use Rattle.parent_rules.proofs.TypeWords.{field-type, field-long, field-read, field-small}
+use Rattle.parent_rules.proofs.field_word.Statement.{statement}
+use Rattle.parent_rules.proofs.field_word.Tie as tie
 
 add-type-word : tie.Need-add-type-word
 add-type-word c = omega (arith, field-small _ _ _ (c .before .before .pre .0) _ _ (c .before .before .pre .1), c .before .before .good .1 .0)

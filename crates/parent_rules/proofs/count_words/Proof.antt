@@ -1,8 +1,8 @@
--- `parent_chains::count_words` meets its contract.
+-- `parent_rules::count_words` meets its contract.
 use borrow.Author.Needs.{needs}
-use Rattle.parent_chains.proofs.TypeWords.{struct-in, struct-long, count-read, count-none}
-use Rattle.parent_chains.proofs.count_words.Statement.{statement}
-use Rattle.parent_chains.proofs.count_words.Tie as tie
+use Rattle.parent_rules.proofs.TypeWords.{struct-in, struct-long, count-read, count-none}
+use Rattle.parent_rules.proofs.count_words.Statement.{statement}
+use Rattle.parent_rules.proofs.count_words.Tie as tie
 
 is-struct-requires : tie.Need-is-struct-requires
 is-struct-requires c κs = search needs

@@ -1,8 +1,8 @@
--- `parent_chains::is_chain_short` meets its contract.
+-- `parent_rules::is_chain_short` meets its contract.
 use borrow.Author.Needs.{needs}
-use Rattle.parent_chains.proofs.ChainSteps.{chain-short}
-use Rattle.parent_chains.proofs.is_chain_short.Statement.{statement}
-use Rattle.parent_chains.proofs.is_chain_short.Tie as tie
+use Rattle.parent_rules.proofs.ChainSteps.{chain-short}
+use Rattle.parent_rules.proofs.is_chain_short.Statement.{statement}
+use Rattle.parent_rules.proofs.is_chain_short.Tie as tie
 
 add-chain-length : tie.Need-add-chain-length
 add-chain-length c = search needs

@@ -1,16 +1,16 @@
--- `parent_chains::chain_length` meets its contract: the limit that is left falls.
+-- `parent_rules::chain_length` meets its contract: the limit that is left falls.
 use borrow.Author.Needs.{needs}
 use native.Mathlib.Omega.{arith}
-use Rattle.parent_chains.proofs.ChainSteps.{chain-spent, chain-root, chain-up, chain-small}
+use Rattle.parent_rules.proofs.ChainSteps.{chain-spent, chain-root, chain-up, chain-small}
 use Prim.Native.Nat.{ℕ, _<_}
 use borrow.Fn.Kinds.{In}
 use borrow.Fn.PlainCycle.{Measures, is, falls, and}
-use Rattle.parent_chains.proofs.chain_length.Reads as chain-length
-use Rattle.parent_chains.proofs.chain_length.Kinds as chain-length-kinds
-use Rattle.parent_chains.proofs.+chain_length.Lts-chain_length as chain-length-lts
-use Rattle.parent_chains.proofs.parent_of.Reads as parent-of-reads
-use Rattle.parent_chains.proofs.+chain_length.{statement}
-use Rattle.parent_chains.proofs.+chain_length.Tie.{close}
+use Rattle.parent_rules.proofs.chain_length.Reads as chain-length
+use Rattle.parent_rules.proofs.chain_length.Kinds as chain-length-kinds
+use Rattle.parent_rules.proofs.+chain_length.Lts-chain_length as chain-length-lts
+use Rattle.parent_rules.proofs.parent_of.Reads as parent-of-reads
+use Rattle.parent_rules.proofs.+chain_length.{statement}
+use Rattle.parent_rules.proofs.+chain_length.Tie.{close}
 
 abbrev μ-chain-length : Measures 2 chain-length-kinds.ps ℕ
 μ-chain-length κs a = a .1 .1 .1 .1 .0

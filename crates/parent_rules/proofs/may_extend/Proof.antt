@@ -1,8 +1,8 @@
--- `parent_chains::may_extend` meets its contract.
+-- `parent_rules::may_extend` meets its contract.
 use borrow.Author.Needs.{needs}
-use Rattle.parent_chains.proofs.ChainSteps.{extends-fit, extends-none}
-use Rattle.parent_chains.proofs.may_extend.Statement.{statement}
-use Rattle.parent_chains.proofs.may_extend.Tie as tie
+use Rattle.parent_rules.proofs.ChainSteps.{extends-fit, extends-none}
+use Rattle.parent_rules.proofs.may_extend.Statement.{statement}
+use Rattle.parent_rules.proofs.may_extend.Tie as tie
 
 is-struct-requires : tie.Need-is-struct-requires
 is-struct-requires c κs = search needs

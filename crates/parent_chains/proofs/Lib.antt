@@ -1,2 +1,0 @@
-pub mod TypeWords
-pub mod ChainSteps
