@@ -1,5 +1,5 @@
 -- A chain's length, from a type towards the root; whether a parent may be extended.
-use Prim.Native.Nat.{ℕ, zero, suc, _+_, _-_, _≤_}
+use Prim.Native.Nat.{ℕ, zero, suc, _+_, _-_, _≤_, _<_, min}
 use mathlib.Core.Path.{_≡_, refl, sym, ap, _∙_}
 use mathlib.Core.List.{List, [], _∷_, append-nil}
 use mathlib.Core.Bool.{Bool, true, false}
@@ -75,6 +75,26 @@ module _ (types : List TypeDef) where
       go other e ih = omega (arith, chain-none f t (unfold parents in ap parents e))
       go root e ih = omega (arith, chain-none f t (unfold parents in ap parents e))
       go (sub p) e ih = omega (arith, chain-more f t p (unfold parents in ap parents e), ih p)
+
+  -- a chain that ended before a limit has that length, whatever the limit
+  pub chain-ended : (left t l : ℕ) → length (chain types left t) < left → length (chain types l t) ≡ min l (length (chain types left t))
+  chain-ended zero t l h = absurd (omega arith)
+  chain-ended (suc f) t l h = go (entryAt types t) refl (λ p g. chain-ended f p g)
+    where
+      alone : (l : ℕ) → up t ≡ [] → length (chain types l t) ≡ min l (length (chain types (suc f) t))
+      alone zero e = omega (arith, chain-spent zero t refl)
+      alone (suc g) e = omega (arith, chain-none f t e, chain-none g t e)
+
+      above : (p l : ℕ) → up t ≡ p ∷ [] → ((g : ℕ) → length (chain types f p) < f → length (chain types g p) ≡ min g (length (chain types f p))) →
+          length (chain types l t) ≡ min l (length (chain types (suc f) t))
+      above p zero e ih = omega (arith, chain-spent zero t refl)
+      above p (suc g) e ih = omega (arith, chain-more f t p e, chain-more g t p e, ih g (omega (arith, chain-more f t p e)))
+
+      go : (x : Entry) → entryAt types t ≡ x → ((p g : ℕ) → length (chain types f p) < f → length (chain types g p) ≡ min g (length (chain types f p))) →
+          length (chain types l t) ≡ min l (length (chain types (suc f) t))
+      go other e ih = alone l (unfold parents in ap parents e)
+      go root e ih = alone l (unfold parents in ap parents e)
+      go (sub p) e ih = above p l (unfold parents in ap parents e) (λ g. ih p g)
 
   pub chain-small : (left p : ℕ) {r : ℕ} → (left ≡ 0 → ⊥) → r ≡ length (chain types (left - 1) p) → r + 1 ≤ left
   chain-small left p h g = omega (arith, chain-most (left - 1) p)

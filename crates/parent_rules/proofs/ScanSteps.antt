@@ -22,13 +22,15 @@ use Rattle.error.specs.VerdictLaws.{placed-faults}
 use Rattle.sheet.specs.Module.{TypeDef, coroutine, Module, typeAt, structOf, isStruct}
 use Rattle.layout.specs.Opened.{moduleIn}
 use Rattle.opening.specs.declared.Opened.{Opened}
-use Rattle.opening.specs.Ready.{Ready}
+use Rattle.opening.specs.Ready.{Ready, Kept}
 use Rattle.opening.specs.ReadyLaws.{types-in, count-types}
 use Rattle.judging.specs.Clearing.{Clears, clears-start, clears-next, clears-holds, clears-stop}
 use Rattle.parents.specs.Forest.{other, sub, entry}
 use Rattle.parents.specs.Parents.{fieldWords, fieldsFirst, shortChain, childFaults, parentFaults, parentsFaults}
 use Rattle.parent_rules.specs.Child.{parentWord, extends, scanFaults}
+use Rattle.parent_rules.specs.Lengths.{Remembers}
 use Rattle.parent_rules.proofs.ChainSteps.{entry-none, entry-sub}
+use Rattle.parent_rules.proofs.LengthSteps.{kept-same, kept-then}
 
 -- ── what is broken in one type ──
 
@@ -155,35 +157,62 @@ module _ (most : ℕ) (types : List TypeDef) where
 
 -- ── over a sheet that is ready ──
 
-module _ (ws w : List ℕ) (o : Opened) (x : Ready ws w o) (most : ℕ) (found : Verdict) (t : ℕ) (s : Scans most (moduleIn ws .types) found t) where
-  pub scan-end : o .counts .types ≤ t → found ≡ verdictOf (scanFaults most (moduleIn ws .types))
+-- w is w₀ but for the free words, which remember lengths; nothing was found before type t
+pub record Passes (most : ℕ) (ws w₀ : List ℕ) (o : Opened) (w : List ℕ) (found : Verdict) (t : ℕ) : Type 0 where
+  pub remembers : Remembers ws w o
+  pub kept : Kept o w₀ w
+  pub scans : Scans most (moduleIn ws .types) found t
+
+pub pass-start : (most : ℕ) (ws w : List ℕ) (o : Opened) → Remembers ws w o → Passes most ws w o w Holds 0
+pass-start most ws w o x = record { remembers = x; kept = kept-same o w; scans = scan-start most (moduleIn ws .types) }
+
+module _ (most : ℕ) (ws w₀ : List ℕ) (o : Opened) (w : List ℕ) (found : Verdict) (t : ℕ) (x : Passes most ws w₀ o w found t) where
+  abbrev types : List TypeDef
+  types = moduleIn ws .types
+
+  pub pass-length : length w ≡ length w₀
+  unfolding Kept
+  pass-length = x .kept .len
+
+  pub pass-ready : Ready ws w o
+  pass-ready = x .remembers .ready
+
+  pub pass-end : o .counts .types ≤ t → found ≡ verdictOf (scanFaults most types)
   unfolding scanFaults
-  scan-end h = s .holds ∙ clears-holds (faultsOf most (moduleIn ws .types)) (moduleIn ws .types) t (s .clear) (omega (arith, count-types ws o (x .opens)))
+  pass-end h = x .scans .holds ∙ clears-holds (faultsOf most types) types t (x .scans .clear) (omega (arith, count-types ws o (pass-ready .opens)))
 
-  module _ (h : t < o .counts .types) {p : ℕ} (k : p ≡ parentWord (typeAt (moduleIn ws .types) t)) where
-    pub scan-skip : p ≡ 0 → Scans most (moduleIn ws .types) found (t + 1)
-    scan-skip e = passed most (moduleIn ws .types) found t s (types-in ws w o x t h) (no-faults most (moduleIn ws .types) t (typeAt (moduleIn ws .types) t) k e)
+  -- the chain was short, and its lengths are noted
+  pub pass-next : {g : Verdict} {p n i : ℕ} {r : Bool} {v : List ℕ} → Compares most types g t p n i → n ≤ i → r ≡ shortChain most types t → not r ≡ false → Remembers ws v o → Kept o w v →
+      Passes most ws w₀ o v g (t + 1)
+  pass-next {g} {p} {n} {i} {r} {v} y h k e z f = record { remembers = z; kept = kept-then o w₀ w v (x .kept) f; scans = scan-next most types g t p n i y h k e }
 
-    module _ (e : p ≡ 0 → ⊥) {r : Bool} (f : r ≡ extends (moduleIn ws .types) (p - 1) t) where
-      pub unfit-stop : not r ≡ true → Broken BadParent ≡ verdictOf (scanFaults most (moduleIn ws .types))
+  module _ (h : t < o .counts .types) {p : ℕ} (k : p ≡ parentWord (typeAt types t)) where
+    pub pass-skip : p ≡ 0 → Passes most ws w₀ o w found (t + 1)
+    pass-skip e = record {
+      remembers = x .remembers;
+      kept = x .kept;
+      scans = passed most types found t (x .scans) (types-in ws w o pass-ready t h) (no-faults most types t (typeAt types t) k e);
+    }
+
+    module _ (e : p ≡ 0 → ⊥) {r : Bool} (f : r ≡ extends types (p - 1) t) where
+      pub unfit-stop : not r ≡ true → Broken BadParent ≡ verdictOf (scanFaults most types)
       unfit-stop g =
-          stopped most (moduleIn ws .types) found t s (types-in ws w o x t h)
-          (unfit most (moduleIn ws .types) t (p - 1) (sym f ∙ not-true r g)
-          ∙ sym (ap verdictOf (child-faults most (moduleIn ws .types) t (typeAt (moduleIn ws .types) t) (p - 1) (entry-sub (typeAt (moduleIn ws .types) t) k e))))
+          stopped most types found t (x .scans) (types-in ws w o pass-ready t h)
+          (unfit most types t (p - 1) (sym f ∙ not-true r g) ∙ sym (ap verdictOf (child-faults most types t (typeAt types t) (p - 1) (entry-sub (typeAt types t) k e))))
 
-      pub compare-start : {n : ℕ} → not r ≡ false → n ≡ length (fieldWords (structOf (typeAt (moduleIn ws .types) (p - 1)))) → Compares most (moduleIn ws .types) found t p n 0
+      pub compare-start : {n : ℕ} → not r ≡ false → n ≡ length (fieldWords (structOf (typeAt types (p - 1)))) → Compares most types found t p n 0
       unfolding extends fieldsFirst
       compare-start {n} g c =
           let b = sym f ∙ not-false r g in
-          let u = fieldWords (structOf (typeAt (moduleIn ws .types) (p - 1))) in
-          let v = fieldWords (structOf (typeAt (moduleIn ws .types) t)) in
+          let u = fieldWords (structOf (typeAt types (p - 1))) in
+          let v = fieldWords (structOf (typeAt types t)) in
           record {
-            scans = s;
-            known = types-in ws w o x t h;
-            child = entry-sub (typeAt (moduleIn ws .types) t) k e;
-            parent = and-first (isStruct (typeAt (moduleIn ws .types) (p - 1))) (leb (length u) (length v)) b;
+            scans = x .scans;
+            known = types-in ws w o pass-ready t h;
+            child = entry-sub (typeAt types t) k e;
+            parent = and-first (isStruct (typeAt types (p - 1))) (leb (length u) (length v)) b;
             count = c;
-            room = omega (arith, leb-true (length u) (length v) (and-second (isStruct (typeAt (moduleIn ws .types) (p - 1))) (leb (length u) (length v)) b));
+            room = omega (arith, leb-true (length u) (length v) (and-second (isStruct (typeAt types (p - 1))) (leb (length u) (length v)) b));
             same = refl;
           }
 

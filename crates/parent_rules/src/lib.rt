@@ -1,16 +1,17 @@
 // Rule 3 in code: parents, per type.
 ghost use mathlib.Core.Path.{_≡_};
-ghost use Prim.Native.Nat.{_<_};
+ghost use Prim.Native.Nat.{_+_, _*_, _≤_, _<_, min};
 ghost use lib.ListN.{length, getD};
 ghost use Rattle.blocks.specs.Frame.{firstWords};
 ghost use Rattle.error.specs.Verdict.{verdictOf, judgedOf};
 ghost use Rattle.sheet.specs.Module.{typeAt, structOf, isStruct};
 ghost use Rattle.sheet.specs.Encode.{encodeType};
 ghost use Rattle.layout.specs.Opened.{moduleIn};
-ghost use Rattle.opening.specs.Ready.{Ready};
+ghost use Rattle.opening.specs.Ready.{Ready, Kept};
 ghost use Rattle.parents.specs.Forest.{chain};
 ghost use Rattle.parents.specs.Parents.{fieldWords, shortChain, parentsFaults};
 ghost use Rattle.parent_rules.specs.Child.{parentWord, extends, scanFaults};
+ghost use Rattle.parent_rules.specs.Lengths.{lengthAt, noted, Remembers};
 use blocks::word;
 use error::Judged;
 use error::LoadErrorKind;
@@ -19,6 +20,7 @@ use error::Verdict;
 use error::in_module;
 use opening::Opened;
 use opening::type_at;
+use region::fill;
 
 // Word i of type t.
 fn type_word(sheet: &[u8], work: &[u32], o: Opened, t: TypeId, i: usize) -> u32
@@ -71,25 +73,62 @@ fn field_word(sheet: &[u8], work: &[u32], o: Opened, t: TypeId, i: usize) -> u32
     type_word(sheet, work, o, t, 4 + i)
 }
 
-// The numbers met from t up through declared parents, at most `left`.
-fn chain_length(sheet: &[u8], work: &[u32], o: Opened, t: TypeId, left: u32) -> u32
-    requires { ⌜ Ready (firstWords (now sheet) (o .layout .words)) (now work) o ⌝ }
+// The length of t's whole chain where it is known, else 0.
+fn known_length(work: &[u32], o: Opened, t: TypeId) -> u32
+    requires { ⌜ 5 * o .layout .words + o .counts .types ≤ length (now work) ⌝ }
+    ensures { λ r. ⌜ r ≡ lengthAt o (now (work .entry)) (t .0) ⌝ }
+{
+    if t.0 < o.counts.types {
+        return work[5 * o.layout.words + t.0 as usize];
+    }
+    0
+}
+
+// Remember a length below the limit: that chain has ended.
+fn note_length(work: &mut [u32], o: Opened, t: TypeId, n: u32, left: u32)
+    requires { ⌜ 5 * o .layout .words + t .0 < length (now work) ⌝ }
+    ensures { λ r. ⌜ now (work .exit) ≡ noted o (now (work .entry)) (t .0) n left ⌝ }
+{
+    if n < left {
+        work[5 * o.layout.words + t.0 as usize] = n;
+    }
+}
+
+fn shorter(a: u32, b: u32) -> u32
+    ensures { λ r. ⌜ r ≡ min a b ⌝ }
+{
+    if a < b { a } else { b }
+}
+
+// The numbers met from t up through declared parents, at most `left`; a chain that was met before is not walked again.
+fn chain_length(sheet: &[u8], work: &mut [u32], o: Opened, t: TypeId, left: u32) -> u32
+    requires { ⌜ Remembers (firstWords (now sheet) (o .layout .words)) (now work) o ⌝ }
     ensures { λ r. ⌜ r ≡ length (chain (moduleIn (firstWords (now (sheet .entry)) (o .layout .words)) .types) left (t .0)) ⌝ }
+    ensures { λ r. ⌜ Remembers (firstWords (now (sheet .entry)) (o .layout .words)) (now (work .exit)) o ⌝ }
+    ensures { λ r. ⌜ Kept o (now (work .entry)) (now (work .exit)) ⌝ }
 {
     if left == 0 {
         return 0;
+    }
+    let known = known_length(work, o, t);
+    if known != 0 {
+        return shorter(left, known);
     }
     let p = parent_of(sheet, work, o, t);
     if p == 0 {
         return 1;
     }
-    chain_length(sheet, work, o, TypeId(p - 1), left - 1) + 1
+    let n = chain_length(sheet, work, o, TypeId(p - 1), left - 1) + 1;
+    note_length(work, o, t, n, left);
+    n
 }
 
-fn is_chain_short(sheet: &[u8], work: &[u32], o: Opened, t: TypeId, most: u32) -> bool
-    requires { ⌜ Ready (firstWords (now sheet) (o .layout .words)) (now work) o ⌝ }
+fn is_chain_short(sheet: &[u8], work: &mut [u32], o: Opened, t: TypeId, most: u32) -> bool
+    requires { ⌜ Remembers (firstWords (now sheet) (o .layout .words)) (now work) o ⌝ }
     requires { ⌜ most < 4294967295 ⌝ }
     ensures { λ r. ⌜ r ≡ shortChain most (moduleIn (firstWords (now (sheet .entry)) (o .layout .words)) .types) (t .0) ⌝ }
+    ensures { λ r. ⌜ Remembers (firstWords (now (sheet .entry)) (o .layout .words)) (now (work .exit)) o ⌝ }
+    ensures { λ r. ⌜ Kept o (now (work .entry)) (now (work .exit)) ⌝ }
 {
     chain_length(sheet, work, o, t, most + 1) <= most
 }
@@ -106,10 +145,11 @@ fn may_extend(sheet: &[u8], work: &[u32], o: Opened, child: TypeId, parent: Type
 }
 
 // Type by type: the parent is fit, its fields are the first of the child's, the chain is short.
-fn scan_parents(sheet: &[u8], work: &[u32], o: Opened, most: u32) -> Verdict
-    requires { ⌜ Ready (firstWords (now sheet) (o .layout .words)) (now work) o ⌝ }
+fn scan_parents(sheet: &[u8], work: &mut [u32], o: Opened, most: u32) -> Verdict
+    requires { ⌜ Remembers (firstWords (now sheet) (o .layout .words)) (now work) o ⌝ }
     requires { ⌜ most < 4294967295 ⌝ }
     ensures { λ r. ⌜ r ≡ verdictOf (scanFaults most (moduleIn (firstWords (now (sheet .entry)) (o .layout .words)) .types)) ⌝ }
+    ensures { λ r. ⌜ Kept o (now (work .entry)) (now (work .exit)) ⌝ }
 {
     let mut found = Verdict::Holds;
     let mut t = 0;
@@ -143,11 +183,13 @@ fn scan_parents(sheet: &[u8], work: &[u32], o: Opened, most: u32) -> Verdict
     found
 }
 
-// Rule 3: 16, then 17, at the first type that breaks it.
-pub fn check_parents(sheet: &[u8], work: &[u32], o: Opened, most: u32) -> Judged
+// Rule 3: 16, then 17, at the first type that breaks it; no length is known before.
+pub fn check_parents(sheet: &[u8], work: &mut [u32], o: Opened, most: u32) -> Judged
     requires { ⌜ Ready (firstWords (now sheet) (o .layout .words)) (now work) o ⌝ }
     requires { ⌜ most < 4294967295 ⌝ }
     ensures { λ r. ⌜ r ≡ judgedOf (parentsFaults most (moduleIn (firstWords (now (sheet .entry)) (o .layout .words)))) ⌝ }
+    ensures { λ r. ⌜ Kept o (now (work .entry)) (now (work .exit)) ⌝ }
 {
+    fill(work, 5 * o.layout.words, o.counts.types as usize, 0);
     in_module(scan_parents(sheet, work, o, most))
 }

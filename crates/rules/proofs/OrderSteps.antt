@@ -66,6 +66,10 @@ pub kept-same : (o : Opened) (w : List ℕ) → Kept o w w
 unfolding Kept
 kept-same o w = frame-refl (λ k. k < 5 * o .layout .words) w
 
+pub kept-then : (o : Opened) (w v u : List ℕ) → Kept o w v → Kept o v u → Kept o w u
+unfolding Kept
+kept-then o w v u f g = frame-then (λ k. k < 5 * o .layout .words) (λ k. k < 5 * o .layout .words) (λ k. k < 5 * o .layout .words) w v u (λ k h. h) (λ k h. h) f g
+
 pub ruleset front-order = (types-stop, parents-stop, consts-last, kept-same)
 
 -- ── rules 5 and 6 ──

@@ -1,17 +1,40 @@
 -- `parent_rules::check_parents` meets its contract.
 use borrow.Author.Needs.{needs}
+use native.Mathlib.Omega.{arith}
+use Rattle.parent_rules.proofs.LengthSteps.{kept-then, free-room, fill-kept, fill-remembers}
 use Rattle.parent_rules.proofs.ScanSteps.{parents-judged}
 use Rattle.parent_rules.proofs.check_parents.Statement.{statement}
 use Rattle.parent_rules.proofs.check_parents.Tie as tie
 
+mul-fill : tie.Need-mul-fill
+mul-fill c = search needs
+
+cast-fill : tie.Need-cast-fill
+cast-fill c = search needs
+
+fill-requires : tie.Need-fill-requires
+fill-requires c κs = (free-room _ _ _ (c .before .before .before .before .before .pre .0), omega arith)
+
 scan-parents-requires : tie.Need-scan-parents-requires
-scan-parents-requires c κs = search needs
+scan-parents-requires c κs = (fill-remembers _ _ _ _ (c .before .before .before .before .before .before .before .before .before .pre .0) (c .before .before .before .fill .ensures .0) (c .before .before .before .fill .ensures .1), c .before .before .before .before .before .before .before .before .before .pre .1)
 
 in-module-requires : tie.Need-in-module-requires
 in-module-requires c κs = search needs
 
+same-length : tie.Need-same-length
+same-length c = search needs
+
 returns : tie.Need-returns
-returns c = search (needs, parents-judged)
+returns c = (parents-judged _ _ (c .before .before .before .scan-parents .ensures .0) (c .in-module .ensures), kept-then _ _ _ _ (fill-kept _ _ _ _ (c .before .before .before .before .before .before .before .before .before .before .before .before .before .pre .0) (c .before .before .before .before .before .before .before .fill .ensures .0)) (c .before .before .before .scan-parents .ensures .1))
 
 pub check-parents-spec : {M : Type 1} → statement M
-check-parents-spec = tie.close (tie.spec scan-parents-requires in-module-requires returns)
+check-parents-spec =
+    tie.close
+    (tie.spec
+    mul-fill
+    cast-fill
+    fill-requires
+    scan-parents-requires
+    in-module-requires
+    same-length
+    returns)

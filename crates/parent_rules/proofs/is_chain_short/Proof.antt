@@ -10,8 +10,12 @@ add-chain-length c = search needs
 chain-length-requires : tie.Need-chain-length-requires
 chain-length-requires c κs = search needs
 
+same-length : tie.Need-same-length
+same-length c = search needs
+
 returns : tie.Need-returns
 returns c = search (needs, chain-short)
 
 pub is-chain-short-spec : {M : Type 1} → statement M
-is-chain-short-spec = tie.close (tie.spec add-chain-length chain-length-requires returns)
+is-chain-short-spec =
+    tie.close (tie.spec add-chain-length chain-length-requires same-length returns)

@@ -2,7 +2,8 @@
 use borrow.Author.Needs.{needs}
 use Rattle.rules.proofs.check_front.Statement.{statement}
 use Rattle.rules.proofs.check_front.Tie as tie
-use Rattle.rules.proofs.OrderSteps.{front-order}
+use Rattle.opening.specs.ReadyLaws.{ready-kept}
+use Rattle.rules.proofs.OrderSteps.{front-order, kept-then}
 
 check-types-requires : tie.Need-check-types-requires
 check-types-requires c κs = search (needs, front-order)
@@ -35,13 +36,13 @@ returns-2 : tie.Need-returns-2
 returns-2 c = search (needs, front-order)
 
 check-consts-requires : tie.Need-check-consts-requires
-check-consts-requires c κs = search (needs, front-order)
+check-consts-requires c κs = search (needs, front-order, ready-kept)
 
 same-length-3 : tie.Need-same-length-3
 same-length-3 c = search (needs, front-order)
 
 returns-3 : tie.Need-returns-3
-returns-3 c = search (needs, front-order)
+returns-3 c = search (needs, front-order, kept-then)
 
 pub check-front-spec : {M : Type 1} → statement M
 check-front-spec =
