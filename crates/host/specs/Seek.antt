@@ -1,4 +1,4 @@
--- The host list as code walks it: strings by position, entries one after the other.
+-- The host list as code walks it.
 use Prim.Native.Nat.{ℕ}
 use mathlib.Core.List.{List}
 use Rattle.reader.specs.Reader.{listOf, whole}

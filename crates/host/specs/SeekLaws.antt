@@ -1,4 +1,4 @@
--- What a caller of lookup knows.
+-- For a caller of lookup.
 use Prim.Native.Nat.{ℕ}
 use mathlib.Core.Path.{_≡_, refl, sym, _∙_}
 use mathlib.Core.List.{List}

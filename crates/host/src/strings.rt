@@ -1,4 +1,4 @@
-// Strings that were read before: no UTF-8 is looked at again. n and m say in which words they stand.
+// Strings that were read before: no UTF-8 is looked at again. n says in which words they stand.
 ghost use mathlib.Core.Path.{_≡_};
 ghost use Rattle.blocks.specs.Frame.{firstWords};
 ghost use Rattle.reader.specs.declared.Step.the-variants.{Next};
