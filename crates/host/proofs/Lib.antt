@@ -1,4 +1,2 @@
 pub mod EntrySteps
 pub mod TextSteps
-pub mod PairSteps
-pub mod ListSteps

@@ -2,11 +2,9 @@
 use Prim.Native.Nat.{ℕ, _+_, _<_}
 use mathlib.Core.Path.{_≡_, refl, sym, ap, ap₂, _∙_}
 use mathlib.Core.List.{List, []}
-use mathlib.Core.Bool.{Bool, true, false, _&&_}
 use native.Mathlib.Omega.{arith}
 use lib.Dec.{eqb, ltb}
 use lib.ListN.{getD}
-use Rattle.lists.specs.Lists.{same}
 use Rattle.blocks.specs.Blocks.{words}
 use Rattle.blocks.specs.Frame.{firstWords}
 use Rattle.blocks.specs.FirstWords.{length-firstWords, firstWords-at}
@@ -18,9 +16,9 @@ use Rattle.reader.specs.Step.{stepOf}
 use Rattle.reader.specs.StepLaws.{arrived}
 use Rattle.reader.specs.Value.{Whole}
 use Rattle.reader.specs.ValueLaws.{whole-inv, got-whole, value-got}
-use Rattle.host.specs.Host.{HostFn, hostFn, named, nobody}
+use Rattle.host.specs.Host.{HostFn, hostFn, nobody}
 use Rattle.host.specs.Listed.{textAt}
-use Rattle.host.specs.Seek.{sameText, entryAt}
+use Rattle.host.specs.Seek.{entryAt}
 use Rattle.host.specs.Texts.{word-inv}
 
 -- ── an entry ──
@@ -81,24 +79,7 @@ module _ (ws : List ℕ) (at : ℕ) (w : Whole (hostFn ws at)) where
         (value-got [] (t .owner) ∙ sym (ap (λ (i : HostFn). i .moduleName) x))
         (value-got [] (ap (string ws) (ends-at (t .owner) m) ∙ t .title) ∙ sym (ap (λ (i : HostFn). i .name) x))
 
-    pub named-both : {x y : Bool} (s : List ℕ) (a c : ℕ) → x ≡ true → x ≡ sameText s a ws at → y ≡ sameText s c ws p → y ≡ named (textAt s a) (textAt s c) (entryAt ws at)
-    unfolding sameText named
-    named-both s a c t f g =
-        entry-texts λ u v.
-        g
-        ∙ ap (same (textAt s c)) v
-        ∙ ap (λ b. b && same (textAt s c) (entryAt ws at .name)) (sym t ∙ f ∙ ap (same (textAt s a)) u)
-
-  pub named-other : {x : Bool} (s : List ℕ) (a c : ℕ) → x ≡ false → x ≡ sameText s a ws at → false ≡ named (textAt s a) (textAt s c) (entryAt ws at)
-  unfolding sameText named
-  named-other s a c t f =
-      entered ws at w λ h p q e k.
-      let u : textAt ws at ≡ entryAt ws at .moduleName = value-got [] (k .owner) ∙ sym (ap (λ (i : HostFn). i .moduleName) (value-got nobody (k .all))) in
-      ap (λ b. b && same (textAt s c) (entryAt ws at .name)) (sym t ∙ f ∙ ap (same (textAt s a)) u)
-
 pub ruleset walking = (entry-module, entry-name, entry-kind)
-
-pub ruleset naming = (entry-module, entry-name, named-both, named-other)
 
 -- ── the kind ──
 
