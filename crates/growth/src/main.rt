@@ -29,7 +29,7 @@ fn print_numbers(n: SixNumbers) {
 }
 
 fn judge(sheet: &[u8], hosts: &[u8], work: &mut [u32]) {
-    print_numbers(numbers(rules::answer::judge(sheet, hosts, work)));
+    print_numbers(numbers(verdict::judge(sheet, hosts, work)));
 }
 
 // Sheet, host list and work are the first bytes and words of what was lent.

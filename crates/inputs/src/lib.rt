@@ -1,12 +1,16 @@
 // The tests before any rule, in their order: 1, 23, 24.
 ghost use mathlib.Core.Path.{_≡_};
+ghost use Rattle.error.specs.declared.Loaded.the-variants.{Refused};
+ghost use Rattle.error.specs.Answer.{inModule};
 ghost use Rattle.layout.specs.Layout.{layout, checkedOf};
 ghost use lib.ListN.{length};
 ghost use Rattle.host.specs.Listed.{listedOf};
 ghost use Rattle.host_index.specs.Sorted.{Roomy};
 ghost use Rattle.inputs.specs.Inputs.{inputsOf, withHosts};
 ghost use Rattle.inputs.specs.Indexed.{IndexedIf};
+use error::LoadError;
 use error::LoadErrorKind;
+use error::Loaded;
 use host::Listed;
 use layout::Checked;
 use layout::Layout;
@@ -50,4 +54,15 @@ pub fn check_inputs(
         Checked::Broken => Inputs::Refused(LoadErrorKind::Decode),
         Checked::Intact(l) => check_with(hosts, l, table, work, index),
     }
+}
+
+// Refused before any rule: no place.
+pub fn refuse(k: LoadErrorKind) -> Loaded
+    ensures { λ r. ⌜ r ≡ Refused (inModule k) ⌝ }
+{
+    Loaded::Refused(LoadError {
+        kind: k,
+        func: 0,
+        pc: 0,
+    })
 }

@@ -3,7 +3,7 @@
 use error::numbers::SixNumbers;
 use error::numbers::numbers;
 use libc::STDOUT_FILENO;
-use rules::answer::judge;
+use verdict::judge;
 
 fn print_number(n: u32) {
     io::write_all(STDOUT_FILENO, b" ");

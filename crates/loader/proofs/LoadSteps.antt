@@ -1,20 +1,18 @@
 -- The answer to any bytes, and the slices after it.
-use Prim.Native.Nat.{ℕ, _+_, _*_, _≤_, _<_}
-use mathlib.Core.Path.{_≡_, refl, sym, ap, subst, _∙_}
-use mathlib.Core.List.{List, []}
+use Prim.Native.Nat.{ℕ, _+_, _*_, _≤_}
+use mathlib.Core.Path.{_≡_, sym, ap, _∙_}
+use mathlib.Core.List.{List}
 use mathlib.Core.Bool.{true}
 use native.Mathlib.Omega.{arith}
-use lib.ListN.{length, replicate}
+use lib.ListN.{length}
 use Rattle.lists.specs.Lists.{all}
 use Rattle.blocks.specs.ByteLaws.{isByte}
 use Rattle.blocks.specs.Frame.{firstWords}
 use Rattle.error.specs.declared.LoadErrorKind.{LoadErrorKind}
 use Rattle.error.specs.declared.Loaded.{Loaded}
-use Rattle.error.specs.declared.Loaded.the-variants.{Accepted, Refused}
+use Rattle.error.specs.declared.Loaded.the-variants.{Refused}
 use Rattle.error.specs.Answer.{inModule}
-use Rattle.sheet.specs.Module.{Module}
 use Rattle.sheet.specs.SheetLaws.{decode-length}
-use Rattle.host.specs.Host.{HostFn}
 use Rattle.host.specs.Listed.{listedOf, hostsIn}
 use Rattle.host_index.specs.Sorted.{SortedHosts}
 use Rattle.layout.specs.declared.Layout.{Layout}
@@ -23,8 +21,6 @@ use Rattle.layout.specs.LayoutLaws.{Located}
 use Rattle.layout.specs.Opened.{moduleIn}
 use Rattle.parents.specs.Parents.{mostOnChain}
 use Rattle.opening.specs.declared.Opened.{Opened}
-use Rattle.opening.specs.Ready.{Ready}
-use Rattle.table.specs.Table.{tableWords}
 use Rattle.table.specs.TableLaws.{table-few}
 use Rattle.load.specs.Load as load
 use Rattle.load.specs.Load.{refused, opened, opening, answer, load, tableThen, tableAfter, workThen, workAfter}
@@ -34,20 +30,8 @@ use Rattle.inputs.specs.declared.Inputs.the-variants as Inputs
 use Rattle.inputs.specs.Inputs.{inputsOf}
 use Rattle.inputs.specs.Indexed.{IndexedIf}
 use Rattle.inputs.specs.InputsLaws.{Admitted, inputs-refused, inputs-intact}
-use Rattle.rules.specs.Unlinked.{Zeroed}
-use Rattle.loader.specs.Linking.{Fits, answered, tableLeft}
-
--- ── a sheet that was opened ──
-
-module _ (b w : List ℕ) (l : Layout) (o : Opened) (x : (o .layout ≡ l) × Ready (firstWords b (l .words)) w o) where
-  pub opened-fits : (hs : List HostFn) (table : List ℕ) → Fits hs (moduleIn (firstWords b (l .words))) table → Fits hs (moduleIn (firstWords b (o .layout .words))) table
-  opened-fits hs table f = subst (λ (k : Layout). Fits hs (moduleIn (firstWords b (k .words))) table) (sym (x .0)) f
-
-  pub opened-answer : (hs : List HostFn) {r : Loaded} → r ≡ answered hs (moduleIn (firstWords b (o .layout .words))) → r ≡ answered hs (moduleIn (firstWords b (l .words)))
-  opened-answer hs e = e ∙ ap (λ (k : Layout). answered hs (moduleIn (firstWords b (k .words)))) (x .0)
-
-  pub opened-table : (hs : List HostFn) (table : List ℕ) {t : List ℕ} → t ≡ tableLeft hs (moduleIn (firstWords b (o .layout .words))) table → t ≡ tableLeft hs (moduleIn (firstWords b (l .words))) table
-  opened-table hs table e = e ∙ ap (λ (k : Layout). tableLeft hs (moduleIn (firstWords b (k .words))) table) (x .0)
+use Rattle.rules.specs.OpenedLaws.{Zeroed}
+use Rattle.linking.specs.Linking.{Fits, answered, tableLeft}
 
 -- ── what is asked where the inputs are not refused ──
 

@@ -1,2 +1,1 @@
 pub mod OrderSteps
-pub mod AnswerSteps

@@ -1,4 +1,3 @@
 pub mod Groups
 pub mod GroupLaws
-pub mod Unlinked
 pub mod OpenedLaws

@@ -10,7 +10,10 @@ use Rattle.layout.specs.declared.Layout.{Layout}
 use Rattle.region.specs.Region.{wordAt, Off, Frame}
 use Rattle.opening.specs.declared.Opened.{Opened}
 use Rattle.opening.specs.Ready.{Ready}
-use Rattle.rules.specs.Unlinked.{Zeroed}
+
+-- as many zeros
+unfoldable pub Zeroed : List ℕ → List ℕ → Type 0
+Zeroed w v = v ≡ replicate (length w) 0
 
 module _ (b w : List ℕ) (l : Layout) (o : Opened) (x : (o .layout ≡ l) × Ready (firstWords b (l .words)) w o) where
   pub opened-ready : Ready (firstWords b (o .layout .words)) w o

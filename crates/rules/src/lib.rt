@@ -14,9 +14,6 @@ ghost use Rattle.import_rules.specs.Links.{LinkedIf};
 ghost use Rattle.end_rules.specs.Ends.{CaptureCounts};
 ghost use Rattle.load.specs.Load.{moduleFaults};
 ghost use Rattle.rules.specs.Groups.{frontFaults, recordFaults, bodyFaults, endFaults, LinksKept};
-
-pub mod answer;
-
 use bodies::index_captures;
 use code_rules::check_codes;
 use const_rules::check_consts;

@@ -1,12 +1,12 @@
 use borrow.Author.Needs.{needs}
-use Rattle.rules.proofs.AnswerSteps.{answering, judge-asked}
-use Rattle.rules.proofs.answer.judge_with.Statement.{statement}
-use Rattle.rules.proofs.answer.judge_with.Tie as tie
-use Rattle.rules.proofs.answer.judge_with.Reads as reads
-use Rattle.rules.proofs.answer.judge_with.Lts as lts
+use Rattle.verdict.proofs.AnswerSteps.{answering, judge-asked}
+use Rattle.verdict.proofs.judge_with.Statement.{statement}
+use Rattle.verdict.proofs.judge_with.Tie as tie
+use Rattle.verdict.proofs.judge_with.Reads as reads
+use Rattle.verdict.proofs.judge_with.Lts as lts
 use Rattle.inputs.proofs.check_inputs.Reads as check-inputs-reads
-use Rattle.rules.proofs.answer.judge_intact.Reads as judge-intact-reads
-use Rattle.rules.proofs.answer.refuse.Reads as refuse-reads
+use Rattle.verdict.proofs.judge_intact.Reads as judge-intact-reads
+use Rattle.inputs.proofs.refuse.Reads as refuse-reads
 
 -- src/answer.rt:76:11
 check-inputs-requires : tie.Need-check-inputs-requires

@@ -1,9 +1,9 @@
--- `rules::answer::judge_intact` meets its contract.
+-- `verdict::judge_intact` meets its contract.
 use borrow.Author.Needs.{needs}
-use Rattle.rules.proofs.answer.judge_intact.Statement.{statement}
-use Rattle.rules.proofs.answer.judge_intact.Tie as tie
+use Rattle.verdict.proofs.judge_intact.Statement.{statement}
+use Rattle.verdict.proofs.judge_intact.Tie as tie
 use Rattle.rules.specs.OpenedLaws.{opened-ready, opened-few, filled-zero}
-use Rattle.rules.proofs.AnswerSteps.{opened-first}
+use Rattle.verdict.proofs.AnswerSteps.{opened-first}
 
 open-sheet-requires : tie.Need-open-sheet-requires
 open-sheet-requires c κs = search (needs, opened-ready, opened-few, opened-first, filled-zero)

@@ -1,8 +1,5 @@
 -- The answer of load where no table is written.
-use Prim.Native.Nat.{ℕ}
-use mathlib.Core.Path.{_≡_}
-use mathlib.Core.List.{List}
-use lib.ListN.{length, replicate}
+use lib.ListN.{length}
 use Rattle.error.specs.declared.Judged.{Judged}
 use Rattle.error.specs.declared.Judged.the-variants as Judged
 use Rattle.error.specs.declared.Loaded.{Loaded}
@@ -17,7 +14,3 @@ unlinked (Refused e) = Refused e
 unfoldable pub loadedOf : Judged → Loaded
 loadedOf Judged.Passed = Accepted 0
 loadedOf (Judged.Refused e) = Refused e
-
--- as many zeros
-unfoldable pub Zeroed : List ℕ → List ℕ → Type 0
-Zeroed w v = v ≡ replicate (length w) 0

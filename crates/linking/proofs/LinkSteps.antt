@@ -1,15 +1,14 @@
 -- What the rules found, as the answer of load and the table that it leaves.
-use Prim.Native.Nat.{ℕ, _+_, _*_, _≤_, _<_}
-use mathlib.Core.Path.{_≡_, refl, sym, ap, ap₂, subst, _∙_}
+use Prim.Native.Nat.{ℕ, _+_, _≤_, _<_}
+use mathlib.Core.Path.{_≡_, refl, sym, ap, ap₂, _∙_}
 use mathlib.Core.List.{List, [], _∷_, _++_}
 use native.Mathlib.Omega.{arith}
-use lib.ListN.{length, take, drop}
+use lib.ListN.{length, drop}
 use lib.Seq.{take-length}
 use Rattle.faults.specs.Empty.{append-empty}
 use Rattle.error.specs.declared.LoadError.{LoadError}
 use Rattle.error.specs.declared.Judged.{Judged}
 use Rattle.error.specs.declared.Judged.the-variants as Judged
-use Rattle.error.specs.declared.Loaded.{Loaded}
 use Rattle.error.specs.declared.Loaded.the-variants.{Accepted, Refused}
 use Rattle.error.specs.Answer.{first}
 use Rattle.error.specs.Verdict.{judgedOf}
@@ -25,17 +24,15 @@ use Rattle.imports.specs.Imports.{importsFaults, globalsFaults}
 use Rattle.funcs.specs.Funcs.{funcsFaults}
 use Rattle.code.specs.Code.{codesFaults}
 use Rattle.hooks.specs.Hooks.{hooksFaults, startFaults, exportsFaults}
-use Rattle.table.specs.Records.{importRecord}
 use Rattle.table.specs.Table.{hookSection, canonSection, globalSection, referenceSection, spanSection, sections, joined, tableWords}
 use Rattle.load.specs.Load.{moduleFaults, linkedOver}
 use Rattle.writing.specs.Writing.{written}
 use Rattle.opening.specs.declared.Opened.{Opened}
 use Rattle.opening.specs.Ready.{Ready}
 use Rattle.import_rules.specs.Links.{LinkedIf}
-use Rattle.plain_sections.specs.Sections.{linkedImports}
 use Rattle.plain_sections.specs.SectionLaws.{linked-section, sigs-inside, bindings-fit}
 use Rattle.link.specs.Parts.{Clear, funcSection, typeSection, tableBy}
-use Rattle.loader.specs.Linking.{Fits, answered, tableLeft}
+use Rattle.linking.specs.Linking.{Fits, answered, tableLeft}
 
 -- ── refused ──
 

@@ -1,8 +1,8 @@
--- `rules::answer::answer` meets its contract.
+-- `verdict::answer` meets its contract.
 use borrow.Author.Needs.{needs}
-use Rattle.rules.proofs.answer.answer.Statement.{statement}
-use Rattle.rules.proofs.answer.answer.Tie as tie
-use Rattle.rules.proofs.AnswerSteps.{loaded-passed, loaded-refused}
+use Rattle.verdict.proofs.answer.Statement.{statement}
+use Rattle.verdict.proofs.answer.Tie as tie
+use Rattle.verdict.proofs.AnswerSteps.{loaded-passed, loaded-refused}
 
 enum-told : tie.Need-enum-told
 enum-told c = search (needs, loaded-passed, loaded-refused)

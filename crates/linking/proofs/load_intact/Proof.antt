@@ -1,10 +1,10 @@
--- `loader::load_intact` meets its contract.
+-- `linking::load_intact` meets its contract.
 use borrow.Author.Needs.{needs}
-use Rattle.loader.proofs.load_intact.Statement.{statement}
-use Rattle.loader.proofs.load_intact.Tie as tie
+use Rattle.linking.proofs.load_intact.Statement.{statement}
+use Rattle.linking.proofs.load_intact.Tie as tie
 use native.Mathlib.Omega.{arith}
 use Rattle.rules.specs.OpenedLaws.{opened-ready, opened-few, filled-zero}
-use Rattle.loader.proofs.LoadSteps.{opened-fits, opened-answer, opened-table}
+use Rattle.linking.proofs.OpenedSteps.{opened-fits, opened-answer, opened-table}
 
 open-sheet-requires : tie.Need-open-sheet-requires
 open-sheet-requires c κs = search needs

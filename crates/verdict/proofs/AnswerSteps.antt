@@ -1,8 +1,7 @@
 -- What was judged, as the answer of load.
-use Prim.Native.Nat.{ℕ, _+_, _*_, _≤_, _<_}
-use mathlib.Core.Path.{_≡_, refl, sym, ap, subst, _∙_}
+use Prim.Native.Nat.{ℕ, _+_, _*_, _≤_}
+use mathlib.Core.Path.{_≡_, refl, sym, ap, _∙_}
 use mathlib.Core.List.{List, [], _∷_}
-use native.Mathlib.Omega.{arith}
 use lib.ListN.{length}
 use Rattle.blocks.specs.Frame.{firstWords}
 use Rattle.error.specs.declared.LoadErrorKind.{LoadErrorKind}
@@ -13,7 +12,6 @@ use Rattle.error.specs.declared.Loaded.{Loaded}
 use Rattle.error.specs.declared.Loaded.the-variants.{Accepted, Refused}
 use Rattle.error.specs.Answer.{inModule, first}
 use Rattle.error.specs.Verdict.{judgedOf}
-use Rattle.sheet.specs.Module.{Module}
 use Rattle.host.specs.Host.{HostFn}
 use Rattle.host.specs.Listed.{listedOf, hostsIn}
 use Rattle.host_index.specs.Sorted.{SortedHosts}
@@ -25,14 +23,15 @@ use Rattle.parents.specs.Parents.{mostOnChain}
 use Rattle.opening.specs.declared.Opened.{Opened}
 use Rattle.opening.specs.Ready.{Ready}
 use Rattle.table.specs.Table.{tableWords}
-use Rattle.load.specs.Load.{moduleFaults, refused, opened, opening, answer, load, workThen, workAfter}
+use Rattle.load.specs.Load.{moduleFaults, refused, opened, answer, load, workThen, workAfter}
 use Rattle.load.specs.Load as load
 use Rattle.inputs.specs.declared.Inputs.{Inputs}
 use Rattle.inputs.specs.declared.Inputs.the-variants as Inputs
 use Rattle.inputs.specs.Inputs.{inputsOf}
 use Rattle.inputs.specs.Indexed.{IndexedIf}
 use Rattle.inputs.specs.InputsLaws.{Admitted, inputs-refused, inputs-intact}
-use Rattle.rules.specs.Unlinked.{unlinked, loadedOf, Zeroed}
+use Rattle.rules.specs.OpenedLaws.{Zeroed}
+use Rattle.verdict.specs.Unlinked.{unlinked, loadedOf}
 
 pub loaded-passed : {j : Judged} → j ≡ Judged.Passed → Accepted 0 ≡ loadedOf j
 unfolding loadedOf

@@ -1,11 +1,11 @@
 use borrow.Author.Needs.{needs}
 use Rattle.host_index.specs.SortedLaws.{roomy}
 use native.Mathlib.Omega.{arith}
-use Rattle.rules.proofs.answer.judge_in.Statement.{statement}
-use Rattle.rules.proofs.answer.judge_in.Tie as tie
-use Rattle.rules.proofs.answer.judge_in.Reads as reads
-use Rattle.rules.proofs.answer.judge_in.Lts as lts
-use Rattle.rules.proofs.answer.judge_with.Reads as judge-with-reads
+use Rattle.verdict.proofs.judge_in.Statement.{statement}
+use Rattle.verdict.proofs.judge_in.Tie as tie
+use Rattle.verdict.proofs.judge_in.Reads as reads
+use Rattle.verdict.proofs.judge_in.Lts as lts
+use Rattle.verdict.proofs.judge_with.Reads as judge-with-reads
 
 -- src/answer.rt:87:5
 judge-with-requires : tie.Need-judge-with-requires

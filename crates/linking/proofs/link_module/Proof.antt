@@ -1,9 +1,9 @@
--- `loader::link_module` meets its contract.
+-- `linking::link_module` meets its contract.
 use borrow.Author.Needs.{needs}
-use Rattle.loader.proofs.link_module.Statement.{statement}
-use Rattle.loader.proofs.link_module.Tie as tie
+use Rattle.linking.proofs.link_module.Statement.{statement}
+use Rattle.linking.proofs.link_module.Tie as tie
 use native.Mathlib.Omega.{arith}
-use Rattle.loader.proofs.LinkSteps.{clear, table-room, table-small, end-small, answer-passed, table-passed, answer-refused, table-refused}
+use Rattle.linking.proofs.LinkSteps.{clear, table-room, table-small, end-small, answer-passed, table-passed, answer-refused, table-refused}
 
 check-module-requires : tie.Need-check-module-requires
 check-module-requires c κs = search needs

@@ -3,26 +3,24 @@ ghost use mathlib.Core.Path.{_≡_};
 ghost use Prim.Native.Nat.{_+_, _*_, _≤_};
 ghost use lib.ListN.{length};
 ghost use Rattle.blocks.specs.Frame.{firstWords};
-ghost use Rattle.error.specs.declared.Loaded.the-variants.{Refused};
-ghost use Rattle.error.specs.Answer.{inModule, first};
+ghost use Rattle.error.specs.Answer.{first};
 ghost use Rattle.host.specs.Listed.{hostsIn};
-ghost use Rattle.host_index.specs.Sorted.{Roomy};
-ghost use Rattle.host_index.specs.Sorted.{SortedHosts};
+ghost use Rattle.host_index.specs.Sorted.{Roomy, SortedHosts};
 ghost use Rattle.layout.specs.LayoutLaws.{Located};
 ghost use Rattle.layout.specs.Opened.{moduleIn};
 ghost use Rattle.parents.specs.Parents.{mostOnChain};
 ghost use Rattle.load.specs.Load.{moduleFaults, load, workAfter};
-ghost use Rattle.rules.specs.Unlinked.{unlinked, loadedOf, Zeroed};
-use crate::check_module;
+ghost use Rattle.rules.specs.OpenedLaws.{Zeroed};
+ghost use Rattle.verdict.specs.Unlinked.{unlinked, loadedOf};
 use error::Judged;
-use error::LoadError;
-use error::LoadErrorKind;
 use error::Loaded;
 use inputs::Inputs;
 use inputs::check_inputs;
+use inputs::refuse;
 use layout::Layout;
 use opening::open_sheet;
 use region::fill;
+use rules::check_module;
 
 // What was judged, as an answer.
 fn answer(j: Judged) -> Loaded
@@ -32,17 +30,6 @@ fn answer(j: Judged) -> Loaded
         Judged::Passed => Loaded::Accepted(0),
         Judged::Refused(e) => Loaded::Refused(e),
     }
-}
-
-// Refused before any rule: no place.
-pub fn refuse(k: LoadErrorKind) -> Loaded
-    ensures { λ r. ⌜ r ≡ Refused (inModule k) ⌝ }
-{
-    Loaded::Refused(LoadError {
-        kind: k,
-        func: 0,
-        pc: 0,
-    })
 }
 
 // Work is zero after the rules.
