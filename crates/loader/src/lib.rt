@@ -37,7 +37,7 @@ fn load_with(
 }
 
 // A list of few entries has a small index, so that little is zeroed for it.
-fn load_few(
+fn with_few(
     sheet: &[u8],
     hosts: &[u8],
     table: &mut [u32],
@@ -52,7 +52,17 @@ fn load_few(
     load_with(sheet, hosts, table, work, index)
 }
 
-fn load_more(
+fn load_few(sheet: &[u8], hosts: &[u8], table: &mut [u32], work: &mut [u32]) -> Loaded
+    requires { ⌜ getD (words (now hosts)) 2 0 ≤ 512 ⌝ }
+    ensures { λ r. ⌜ r ≡ load (now (sheet .entry)) (now (hosts .entry)) (length (now (table .entry))) (length (now (work .entry))) ⌝ }
+    ensures { λ r. ⌜ now (table .exit) ≡ tableAfter (now (sheet .entry)) (now (hosts .entry)) (now (table .entry)) (now (work .entry)) ⌝ }
+    ensures { λ r. ⌜ now (work .exit) ≡ workAfter (now (sheet .entry)) (now (hosts .entry)) (now (table .entry)) (now (work .entry)) ⌝ }
+{
+    let mut index = [0u32; 1537];
+    with_few(sheet, hosts, table, work, &mut index)
+}
+
+fn with_more(
     sheet: &[u8],
     hosts: &[u8],
     table: &mut [u32],
@@ -67,8 +77,18 @@ fn load_more(
     load_with(sheet, hosts, table, work, index)
 }
 
+fn load_more(sheet: &[u8], hosts: &[u8], table: &mut [u32], work: &mut [u32]) -> Loaded
+    requires { ⌜ getD (words (now hosts)) 2 0 ≤ 16384 ⌝ }
+    ensures { λ r. ⌜ r ≡ load (now (sheet .entry)) (now (hosts .entry)) (length (now (table .entry))) (length (now (work .entry))) ⌝ }
+    ensures { λ r. ⌜ now (table .exit) ≡ tableAfter (now (sheet .entry)) (now (hosts .entry)) (now (table .entry)) (now (work .entry)) ⌝ }
+    ensures { λ r. ⌜ now (work .exit) ≡ workAfter (now (sheet .entry)) (now (hosts .entry)) (now (table .entry)) (now (work .entry)) ⌝ }
+{
+    let mut index = [0u32; 49153];
+    with_more(sheet, hosts, table, work, &mut index)
+}
+
 // An index for any list.
-fn load_most(
+fn with_most(
     sheet: &[u8],
     hosts: &[u8],
     table: &mut [u32],
@@ -82,21 +102,39 @@ fn load_most(
     load_with(sheet, hosts, table, work, index)
 }
 
+fn load_most(sheet: &[u8], hosts: &[u8], table: &mut [u32], work: &mut [u32]) -> Loaded
+    ensures { λ r. ⌜ r ≡ load (now (sheet .entry)) (now (hosts .entry)) (length (now (table .entry))) (length (now (work .entry))) ⌝ }
+    ensures { λ r. ⌜ now (table .exit) ≡ tableAfter (now (sheet .entry)) (now (hosts .entry)) (now (table .entry)) (now (work .entry)) ⌝ }
+    ensures { λ r. ⌜ now (work .exit) ≡ workAfter (now (sheet .entry)) (now (hosts .entry)) (now (table .entry)) (now (work .entry)) ⌝ }
+{
+    let mut index = [0u32; 390142];
+    with_most(sheet, hosts, table, work, &mut index)
+}
+
+// One index for a call: of a function that calls itself the compiler keeps large frames apart, so a short list takes little stack.
+fn load_by(sheet: &[u8], hosts: &[u8], table: &mut [u32], work: &mut [u32], left: u32) -> Loaded
+    ensures { λ r. ⌜ r ≡ load (now (sheet .entry)) (now (hosts .entry)) (length (now (table .entry))) (length (now (work .entry))) ⌝ }
+    ensures { λ r. ⌜ now (table .exit) ≡ tableAfter (now (sheet .entry)) (now (hosts .entry)) (now (table .entry)) (now (work .entry)) ⌝ }
+    ensures { λ r. ⌜ now (work .exit) ≡ workAfter (now (sheet .entry)) (now (hosts .entry)) (now (table .entry)) (now (work .entry)) ⌝ }
+{
+    if left == 0 {
+        return load_most(sheet, hosts, table, work);
+    }
+    let count = word(hosts, 2);
+    if count <= 512 {
+        return load_few(sheet, hosts, table, work);
+    }
+    if count <= 16384 {
+        return load_more(sheet, hosts, table, work);
+    }
+    load_by(sheet, hosts, table, work, left - 1)
+}
+
 // The verdict on any sheet and host list; where it is accepted, the linked table.
 pub fn load(sheet: &[u8], hosts: &[u8], table: &mut [u32], work: &mut [u32]) -> Loaded
     ensures { λ r. ⌜ r ≡ load (now (sheet .entry)) (now (hosts .entry)) (length (now (table .entry))) (length (now (work .entry))) ⌝ }
     ensures { λ r. ⌜ now (table .exit) ≡ tableAfter (now (sheet .entry)) (now (hosts .entry)) (now (table .entry)) (now (work .entry)) ⌝ }
     ensures { λ r. ⌜ now (work .exit) ≡ workAfter (now (sheet .entry)) (now (hosts .entry)) (now (table .entry)) (now (work .entry)) ⌝ }
 {
-    let count = word(hosts, 2);
-    if count <= 512 {
-        let mut index = [0u32; 1537];
-        return load_few(sheet, hosts, table, work, &mut index);
-    }
-    if count <= 16384 {
-        let mut index = [0u32; 49153];
-        return load_more(sheet, hosts, table, work, &mut index);
-    }
-    let mut index = [0u32; 390142];
-    load_most(sheet, hosts, table, work, &mut index)
+    load_by(sheet, hosts, table, work, 1)
 }

@@ -1,11 +1,11 @@
--- `loader::load_most` meets its contract.
+-- `loader::with_most` meets its contract.
 use borrow.Author.Needs.{needs}
 use native.Mathlib.Omega.{arith}
 use Rattle.host_index.specs.SortedLaws.{roomy}
-use Rattle.loader.proofs.load_most.Statement.{statement}
-use Rattle.loader.proofs.load_most.Tie as tie
-use Rattle.loader.proofs.load_most.Reads as reads
-use Rattle.loader.proofs.load_most.Lts as lts
+use Rattle.loader.proofs.with_most.Statement.{statement}
+use Rattle.loader.proofs.with_most.Tie as tie
+use Rattle.loader.proofs.with_most.Reads as reads
+use Rattle.loader.proofs.with_most.Lts as lts
 use Rattle.loader.proofs.load_with.Reads as load-with-reads
 
 -- src/lib.rt:141:5
@@ -24,5 +24,5 @@ same-length-2 c = search needs
 returns : tie.Need-returns
 returns c = search needs
 
-pub load-most-spec : {M : Type 1} → statement M
-load-most-spec = tie.close (tie.spec load-with-requires same-length same-length-2 returns)
+pub with-most-spec : {M : Type 1} → statement M
+with-most-spec = tie.close (tie.spec load-with-requires same-length same-length-2 returns)

@@ -1,12 +1,12 @@
--- `loader::load_few` meets its contract.
+-- `loader::with_few` meets its contract.
 use mathlib.Core.Path.{refl}
 use borrow.Author.Needs.{needs}
 use native.Mathlib.Omega.{arith}
 use Rattle.host_index.specs.SortedLaws.{roomy-few}
-use Rattle.loader.proofs.load_few.Statement.{statement}
-use Rattle.loader.proofs.load_few.Tie as tie
-use Rattle.loader.proofs.load_few.Reads as reads
-use Rattle.loader.proofs.load_few.Lts as lts
+use Rattle.loader.proofs.with_few.Statement.{statement}
+use Rattle.loader.proofs.with_few.Tie as tie
+use Rattle.loader.proofs.with_few.Reads as reads
+use Rattle.loader.proofs.with_few.Lts as lts
 use Rattle.loader.proofs.load_with.Reads as load-with-reads
 
 -- src/lib.rt:111:5
@@ -25,5 +25,5 @@ same-length-2 c = search needs
 returns : tie.Need-returns
 returns c = search needs
 
-pub load-few-spec : {M : Type 1} → statement M
-load-few-spec = tie.close (tie.spec load-with-requires same-length same-length-2 returns)
+pub with-few-spec : {M : Type 1} → statement M
+with-few-spec = tie.close (tie.spec load-with-requires same-length same-length-2 returns)

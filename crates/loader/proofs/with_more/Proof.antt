@@ -1,12 +1,12 @@
--- `loader::load_more` meets its contract.
+-- `loader::with_more` meets its contract.
 use mathlib.Core.Path.{refl}
 use borrow.Author.Needs.{needs}
 use native.Mathlib.Omega.{arith}
 use Rattle.host_index.specs.SortedLaws.{roomy-few}
-use Rattle.loader.proofs.load_more.Statement.{statement}
-use Rattle.loader.proofs.load_more.Tie as tie
-use Rattle.loader.proofs.load_more.Reads as reads
-use Rattle.loader.proofs.load_more.Lts as lts
+use Rattle.loader.proofs.with_more.Statement.{statement}
+use Rattle.loader.proofs.with_more.Tie as tie
+use Rattle.loader.proofs.with_more.Reads as reads
+use Rattle.loader.proofs.with_more.Lts as lts
 use Rattle.loader.proofs.load_with.Reads as load-with-reads
 
 -- src/lib.rt:126:5
@@ -25,5 +25,5 @@ same-length-2 c = search needs
 returns : tie.Need-returns
 returns c = search needs
 
-pub load-more-spec : {M : Type 1} → statement M
-load-more-spec = tie.close (tie.spec load-with-requires same-length same-length-2 returns)
+pub with-more-spec : {M : Type 1} → statement M
+with-more-spec = tie.close (tie.spec load-with-requires same-length same-length-2 returns)
