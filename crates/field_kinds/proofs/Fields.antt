@@ -1,7 +1,7 @@
 -- The table in code holds the slots of the definitions' rows: it is compared once as a whole, and read at any code and slot.
 use Prim.Native.Nat.{ℕ, _<_}
 use mathlib.Core.Path.{_≡_, refl, ap, _∙_}
-use mathlib.Core.List.{List, [], _∷_, map}
+use mathlib.Core.List.{List, map}
 use native.Mathlib.Omega.{arith}
 use lib.ListN.{getD}
 use Rattle.lists.specs.ListLaws.{map-at}
@@ -11,7 +11,7 @@ use Rattle.code.specs.Opcodes.{Row, step, rows, row}
 use Rattle.code.specs.Opcodes as definitions
 use Rattle.field_kinds.specs.declared.Slot.{Slot}
 use Rattle.field_kinds.specs.declared.Slot.the-variants.{A, B, W, C}
-use Rattle.field_kinds.specs.Slots.{placeOf, kindIn}
+use Rattle.field_kinds.specs.Slots.{placeOf, kindIn, slotsOf}
 
 other : Row
 other = step Unused Unused Unused Unused definitions.free
@@ -25,14 +25,11 @@ place-in C e = omega arith
 
 -- ── slots ──
 
-abbrev pub slotsOf : Row → List FieldKind
-slotsOf r = r .A ∷ r .B ∷ r .W ∷ r .C ∷ []
-
 abbrev pub fields : List (List FieldKind)
 fields = map slotsOf rows
 
 slots-at : (r : Row) (slot : Slot) (e : FieldKind) → getD (slotsOf r) (placeOf slot) e ≡ kindIn r slot
-unfolding placeOf kindIn
+unfolding placeOf kindIn slotsOf
 slots-at r A e = refl
 slots-at r B e = refl
 slots-at r W e = refl
@@ -42,3 +39,7 @@ pub kind-at : (code k : ℕ) (slot : Slot) (d : List FieldKind) (e : FieldKind) 
 unfolding row other
 kind-at code k slot d e h p =
     ap (λ l. getD l k e) (map-at slotsOf other d rows code h) ∙ ap (λ i. getD (slotsOf (row code)) i e) p ∙ slots-at (row code) slot e
+
+pub row-at : (code : ℕ) (d : List FieldKind) → code < 35 → getD fields code d ≡ slotsOf (row code)
+unfolding row other
+row-at code d h = map-at slotsOf other d rows code h

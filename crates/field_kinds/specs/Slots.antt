@@ -1,5 +1,6 @@
 -- A row's slots by place.
 use Prim.Native.Nat.{ℕ}
+use mathlib.Core.List.{List, [], _∷_}
 use Rattle.code.specs.declared.FieldKind.{FieldKind}
 use Rattle.code.specs.Opcodes.{Row}
 use Rattle.field_kinds.specs.declared.Slot.{Slot}
@@ -17,3 +18,7 @@ kindIn r A = r .A
 kindIn r B = r .B
 kindIn r W = r .W
 kindIn r C = r .C
+
+-- a row's four slots
+unfoldable pub slotsOf : Row → List FieldKind
+slotsOf r = r .A ∷ r .B ∷ r .W ∷ r .C ∷ []

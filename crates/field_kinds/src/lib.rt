@@ -2,7 +2,7 @@
 ghost use mathlib.Core.Path.{_≡_};
 ghost use Prim.Native.Nat.{_<_};
 ghost use Rattle.code.specs.Opcodes.{row};
-ghost use Rattle.field_kinds.specs.Slots.{placeOf, kindIn};
+ghost use Rattle.field_kinds.specs.Slots.{placeOf, kindIn, slotsOf};
 use code::FieldKind;
 use code::FieldKind::Const;
 use code::FieldKind::Func;
@@ -83,4 +83,12 @@ pub fn field_kind(code: u32, slot: Slot) -> FieldKind
     let i = code as usize;
     let k = place(slot);
     FIELDS[i][k]
+}
+
+// The kinds of all slots of a code, taken in one read.
+pub fn row_kinds(code: u32) -> [FieldKind; 4]
+    requires { ⌜ code < 35 ⌝ }
+    ensures { λ r. ⌜ r ≡ slotsOf (row code) ⌝ }
+{
+    FIELDS[code as usize]
 }

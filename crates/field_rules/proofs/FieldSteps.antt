@@ -1,12 +1,17 @@
 -- The fields of an instruction, kind by kind and slot by slot.
 use Prim.Native.Nat.{ℕ}
 use mathlib.Core.Path.{_≡_, refl, sym, ap, _∙_}
-use mathlib.Core.List.{_++_}
+use mathlib.Core.List.{List, [], _∷_, _++_}
+use mathlib.Core.Bool.{Bool, true, false, not}
+use native.Mathlib.Omega.{arith}
+use lib.Dec.{ltb}
+use lib.ListN.{getD}
+use borrow.Author.Tests.{not-true, not-false}
 use Rattle.error.specs.declared.What.the-variants.{Functions, Constants, Registers, Imports, Globals, BranchTargets, Tables, Names, TypeRefs, Captures, CallShapes}
 use Rattle.error.specs.declared.LoadErrorKind.{LoadErrorKind}
 use Rattle.error.specs.declared.Verdict.{Verdict}
 use Rattle.error.specs.declared.Verdict.the-variants.{Holds, Broken}
-use Rattle.error.specs.Answer.{inRange}
+use Rattle.error.specs.Answer.{unless, inRange}
 use Rattle.error.specs.Verdict.{verdictOf}
 use Rattle.error.specs.VerdictLaws.{verdict-then, verdict-stop}
 use Rattle.sheet.specs.Module.{opcode, slotA, slotB, slotC, slotW}
@@ -18,9 +23,9 @@ use Rattle.insts.specs.declared.Inst.{Inst}
 use Rattle.field_kinds.specs.declared.Slot.{Slot}
 use Rattle.field_kinds.specs.declared.Slot.the-variants.{A, B, W, C}
 use Rattle.insts.specs.Insts.{inst}
-use Rattle.field_kinds.specs.Slots.{kindIn}
+use Rattle.field_kinds.specs.Slots.{kindIn, slotsOf}
 use Rattle.frames.specs.declared.Frame.{Frame}
-use Rattle.field_rules.specs.Fields.{kindFaults, slotOf, slotFaults, slotsFaults}
+use Rattle.field_rules.specs.Fields.{noFaults, kindFaults, slotOf, slotFaults, slotsFaults}
 
 -- ── by kind ──
 
@@ -66,6 +71,56 @@ module _ (o : Opened) (c : Frame) {kind : FieldKind} (i : ℕ) where
   kind-shape e h = of-kind FieldKind.Shape e (unfold kindFaults in h)
 
 pub ruleset kinds = (kind-unused, kind-reg, kind-target, kind-const, kind-func, kind-import, kind-global, kind-table, kind-name, kind-type-ref, kind-upval, kind-shape)
+
+-- ── tests by kind ──
+
+tested : (b : Bool) (k : LoadErrorKind) → b ≡ noFaults (unless b k)
+unfolding noFaults
+tested true k = refl
+tested false k = refl
+
+module _ (o : Opened) (c : Frame) {kind : FieldKind} (i : ℕ) where
+  as-test : {r : Bool} (K : FieldKind) → kind ≡ K → r ≡ noFaults (kindFaults o c K i) → r ≡ noFaults (kindFaults o c kind i)
+  as-test K e h = h ∙ ap (λ k. noFaults (kindFaults o c k i)) (sym e)
+
+  pub test-unused : kind ≡ FieldKind.Unused → true ≡ noFaults (kindFaults o c kind i)
+  unfolding noFaults kindFaults
+  test-unused e = as-test FieldKind.Unused e refl
+
+  pub test-reg : kind ≡ FieldKind.Reg → ltb i (c .regs) ≡ noFaults (kindFaults o c kind i)
+  test-reg e = as-test FieldKind.Reg e (unfold kindFaults in tested (ltb i (c .regs)) _)
+
+  pub test-target : kind ≡ FieldKind.Target → ltb i (c .code) ≡ noFaults (kindFaults o c kind i)
+  test-target e = as-test FieldKind.Target e (unfold kindFaults in tested (ltb i (c .code)) _)
+
+  pub test-const : kind ≡ FieldKind.Const → ltb i (o .counts .consts) ≡ noFaults (kindFaults o c kind i)
+  test-const e = as-test FieldKind.Const e (unfold kindFaults in tested (ltb i (o .counts .consts)) _)
+
+  pub test-func : kind ≡ FieldKind.Func → ltb i (o .counts .funcs) ≡ noFaults (kindFaults o c kind i)
+  test-func e = as-test FieldKind.Func e (unfold kindFaults in tested (ltb i (o .counts .funcs)) _)
+
+  pub test-import : kind ≡ FieldKind.Import → ltb i (o .counts .imports) ≡ noFaults (kindFaults o c kind i)
+  test-import e = as-test FieldKind.Import e (unfold kindFaults in tested (ltb i (o .counts .imports)) _)
+
+  pub test-global : kind ≡ FieldKind.Global → ltb i (o .counts .globals) ≡ noFaults (kindFaults o c kind i)
+  test-global e = as-test FieldKind.Global e (unfold kindFaults in tested (ltb i (o .counts .globals)) _)
+
+  pub test-table : kind ≡ FieldKind.Table → ltb i (c .tables) ≡ noFaults (kindFaults o c kind i)
+  test-table e = as-test FieldKind.Table e (unfold kindFaults in tested (ltb i (c .tables)) _)
+
+  pub test-name : kind ≡ FieldKind.Name → ltb i (c .names) ≡ noFaults (kindFaults o c kind i)
+  test-name e = as-test FieldKind.Name e (unfold kindFaults in tested (ltb i (c .names)) _)
+
+  pub test-type-ref : kind ≡ FieldKind.TypeRef → ltb i (c .«type_refs») ≡ noFaults (kindFaults o c kind i)
+  test-type-ref e = as-test FieldKind.TypeRef e (unfold kindFaults in tested (ltb i (c .«type_refs»)) _)
+
+  pub test-upval : kind ≡ FieldKind.Upval → ltb i (c .captures) ≡ noFaults (kindFaults o c kind i)
+  test-upval e = as-test FieldKind.Upval e (unfold kindFaults in tested (ltb i (c .captures)) _)
+
+  pub test-shape : kind ≡ FieldKind.Shape → ltb i (c .shapes) ≡ noFaults (kindFaults o c kind i)
+  test-shape e = as-test FieldKind.Shape e (unfold kindFaults in tested (ltb i (c .shapes)) _)
+
+pub ruleset tests = (test-unused, test-reg, test-target, test-const, test-func, test-import, test-global, test-table, test-name, test-type-ref, test-upval, test-shape)
 
 -- ── by slot ──
 
@@ -119,3 +174,61 @@ module _ (o : Opened) (c : Frame) (i : Inst) {a : Verdict} where
       slots-c e h x =
           verdict-then (slotFaults o c i A ++ slotFaults o c i B ++ slotFaults o c i W) (slotFaults o c i C) e
           (verdict-then (slotFaults o c i A ++ slotFaults o c i B) (slotFaults o c i W) eb (verdict-then (slotFaults o c i A) (slotFaults o c i B) ea ha hb) h) x
+
+-- ── all slots tested ──
+
+both : (xs ys : List LoadErrorKind) → noFaults xs ≡ true → noFaults (xs ++ ys) ≡ noFaults ys
+unfolding noFaults
+both [] ys e = refl
+both (x ∷ xs) ys e = let z : _≡_ {A = ℕ} 0 1 = cc in absurd (omega arith)
+
+broken-left : (xs ys : List LoadErrorKind) → noFaults xs ≡ false → noFaults (xs ++ ys) ≡ false
+unfolding noFaults
+broken-left [] ys e = let z : _≡_ {A = ℕ} 0 1 = cc in absurd (omega arith)
+broken-left (x ∷ xs) ys e = refl
+
+module _ (o : Opened) (c : Frame) (i : Inst) {code : ℕ} {kinds : List FieldKind} (e : code ≡ opcode (inst i)) (q : kinds ≡ slotsOf (row code)) (d : FieldKind) where
+  slot-tested : (slot : Slot) (k : ℕ) {v : ℕ} {r : Bool} → getD (slotsOf (row code)) k d ≡ kindIn (row code) slot → v ≡ slotOf slot (inst i)
+      → r ≡ noFaults (kindFaults o c (getD kinds k d) v) → r ≡ noFaults (slotFaults o c i slot)
+  unfolding slotFaults
+  slot-tested slot k {v} p h t =
+      t ∙ ap (λ l. noFaults (kindFaults o c (getD l k d) v)) q ∙ ap (λ f. noFaults (kindFaults o c f v)) p ∙ ap (λ w. noFaults (kindFaults o c (kindIn (row code) slot) w)) h
+      ∙ ap (λ w. noFaults (kindFaults o c (kindIn (row w) slot) (slotOf slot (inst i)))) e
+
+  module _ {a : ℕ} {ra : Bool} (ha : a ≡ slotA (inst i)) (ta : ra ≡ noFaults (kindFaults o c (getD kinds 0 d) a)) where
+    by-a : ra ≡ noFaults (slotFaults o c i A)
+    unfolding slotsOf kindIn slotOf
+    by-a = slot-tested A 0 refl ha ta
+
+    pub fails-a : not ra ≡ true → false ≡ noFaults (slotsFaults o c i)
+    unfolding slotsFaults
+    fails-a n =
+        let x = slotFaults o c i A in
+        let y = slotFaults o c i B in
+        let z = slotFaults o c i W in
+        sym (broken-left (x ++ y ++ z) (slotFaults o c i C) (broken-left (x ++ y) z (broken-left x y (sym by-a ∙ not-true ra n))))
+
+    module _ (na : not ra ≡ false) {b : ℕ} {rb : Bool} (hb : b ≡ slotB (inst i)) (tb : rb ≡ noFaults (kindFaults o c (getD kinds 1 d) b)) where
+      by-b : rb ≡ noFaults (slotFaults o c i A ++ slotFaults o c i B)
+      unfolding slotsOf kindIn slotOf
+      by-b = slot-tested B 1 refl hb tb ∙ sym (both (slotFaults o c i A) (slotFaults o c i B) (sym by-a ∙ not-false ra na))
+
+      pub fails-b : not rb ≡ true → false ≡ noFaults (slotsFaults o c i)
+      unfolding slotsFaults
+      fails-b n =
+          let x = slotFaults o c i A ++ slotFaults o c i B in
+          let z = slotFaults o c i W in
+          sym (broken-left (x ++ z) (slotFaults o c i C) (broken-left x z (sym by-b ∙ not-true rb n)))
+
+      module _ (nb : not rb ≡ false) {w : ℕ} {rt : Bool} (hw : w ≡ slotW (inst i)) (tw : rt ≡ noFaults (kindFaults o c (getD kinds 2 d) w)) where
+        by-w : rt ≡ noFaults (slotFaults o c i A ++ slotFaults o c i B ++ slotFaults o c i W)
+        unfolding slotsOf kindIn slotOf
+        by-w = slot-tested W 2 refl hw tw ∙ sym (both (slotFaults o c i A ++ slotFaults o c i B) (slotFaults o c i W) (sym by-b ∙ not-false rb nb))
+
+        pub fails-w : not rt ≡ true → false ≡ noFaults (slotsFaults o c i)
+        unfolding slotsFaults
+        fails-w n = sym (broken-left (slotFaults o c i A ++ slotFaults o c i B ++ slotFaults o c i W) (slotFaults o c i C) (sym by-w ∙ not-true rt n))
+
+        pub by-c : not rt ≡ false → {v : ℕ} {r : Bool} → v ≡ slotC (inst i) → r ≡ noFaults (kindFaults o c (getD kinds 3 d) v) → r ≡ noFaults (slotsFaults o c i)
+        unfolding slotsOf kindIn slotOf slotsFaults
+        by-c n h t = slot-tested C 3 refl h t ∙ sym (both (slotFaults o c i A ++ slotFaults o c i B ++ slotFaults o c i W) (slotFaults o c i C) (sym by-w ∙ not-false rt n))

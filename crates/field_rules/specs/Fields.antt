@@ -1,6 +1,7 @@
 -- The fields of an instruction, over the counts that code has at hand.
 use Prim.Native.Nat.{ℕ}
-use mathlib.Core.List.{List, [], _++_}
+use mathlib.Core.List.{List, [], _∷_, _++_}
+use mathlib.Core.Bool.{Bool, true, false}
 use Rattle.error.specs.declared.What.the-variants.{Functions, Constants, Registers, Imports, Globals, BranchTargets, Tables, Names, TypeRefs, Captures, CallShapes}
 use Rattle.error.specs.declared.LoadErrorKind.{LoadErrorKind}
 use Rattle.error.specs.Answer.{inRange}
@@ -16,6 +17,11 @@ use Rattle.field_kinds.specs.declared.Slot.the-variants.{A, B, W, C}
 use Rattle.insts.specs.Insts.{inst}
 use Rattle.field_kinds.specs.Slots.{kindIn}
 use Rattle.frames.specs.declared.Frame.{Frame}
+
+-- a list of faults is empty, as a test
+unfoldable pub noFaults : List LoadErrorKind → Bool
+noFaults [] = true
+noFaults (k ∷ ks) = false
 
 -- what a field's kind numbers, by the counts of the sheet and of the function
 unfoldable pub kindFaults : Opened → Frame → FieldKind → ℕ → List LoadErrorKind

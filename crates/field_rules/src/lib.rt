@@ -4,7 +4,7 @@ ghost use Prim.Native.Nat.{_<_};
 ghost use Rattle.error.specs.Verdict.{verdictOf};
 ghost use Rattle.sheet.specs.Module.{opcode};
 ghost use Rattle.insts.specs.Insts.{inst};
-ghost use Rattle.field_rules.specs.Fields.{kindFaults, slotOf, slotFaults, slotsFaults};
+ghost use Rattle.field_rules.specs.Fields.{noFaults, kindFaults, slotOf, slotFaults, slotsFaults};
 use code::FieldKind;
 use error::ConstId;
 use error::FuncId;
@@ -15,6 +15,7 @@ use error::func_in;
 use error::in_range;
 use field_kinds::Slot;
 use field_kinds::field_kind;
+use field_kinds::row_kinds;
 use frames::Frame;
 use insts::Inst;
 use insts::opcode;
@@ -87,4 +88,46 @@ pub fn check_fields(o: Opened, c: Frame, i: Inst) -> Verdict
         }
     }
     check_slot(o, c, i, Slot::C)
+}
+
+// A number of the kind is in range, tested without naming the fault.
+fn field_holds(o: Opened, c: Frame, kind: FieldKind, i: u32) -> bool
+    ensures { λ r. ⌜ r ≡ noFaults (kindFaults o c kind i) ⌝ }
+{
+    match kind {
+        FieldKind::Unused => true,
+        FieldKind::Reg => i < c.regs,
+        FieldKind::Target => i < c.code,
+        FieldKind::Const => i < o.counts.consts,
+        FieldKind::Func => i < o.counts.funcs,
+        FieldKind::Import => i < o.counts.imports,
+        FieldKind::Global => i < o.counts.globals,
+        FieldKind::Table => i < c.tables,
+        FieldKind::Name => i < c.names,
+        FieldKind::TypeRef => i < c.type_refs,
+        FieldKind::Upval => i < c.captures,
+        FieldKind::Shape => i < c.shapes,
+    }
+}
+
+// All slots are in range: the kinds are read once and most instructions need no more.
+pub fn fields_hold(o: Opened, c: Frame, i: Inst) -> bool
+    requires { ⌜ opcode (inst i) < 35 ⌝ }
+    ensures { λ r. ⌜ r ≡ noFaults (slotsFaults o c i) ⌝ }
+{
+    let row = row_kinds(opcode(i));
+    let a = row[0];
+    let b = row[1];
+    let w = row[2];
+    let d = row[3];
+    if !field_holds(o, c, a, slot_a(i)) {
+        return false;
+    }
+    if !field_holds(o, c, b, slot_b(i)) {
+        return false;
+    }
+    if !field_holds(o, c, w, slot_w(i)) {
+        return false;
+    }
+    field_holds(o, c, d, slot_c(i))
 }

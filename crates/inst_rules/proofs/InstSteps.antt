@@ -14,10 +14,8 @@ use Rattle.error.specs.declared.What.the-variants.{Functions, Constants, Regist
 use Rattle.error.specs.declared.LoadErrorKind.{LoadErrorKind}
 use Rattle.error.specs.declared.LoadErrorKind.the-variants.{OutOfRange}
 use Rattle.error.specs.declared.Verdict.{Verdict}
-use Rattle.error.specs.declared.Verdict.the-variants.{Holds, Broken}
 use Rattle.error.specs.Answer.{unless, inRange}
 use Rattle.error.specs.Verdict.{verdictOf}
-use Rattle.error.specs.VerdictLaws.{none-broken, verdict-then, verdict-stop}
 use Rattle.sheet.specs.Module.{opcode, slotA, slotB, slotC, slotW}
 use Rattle.sheet.specs.Module
 use Rattle.layout.specs.Opened.{moduleIn}
@@ -37,7 +35,7 @@ use Rattle.field_kinds.specs.Slots.{kindIn}
 use Rattle.opcodes.specs.Rules.{ruleOf}
 use Rattle.frames.specs.declared.Frame.{Frame}
 use Rattle.frames.specs.Frames.{funcOf, Framed, Captured, Shaped}
-use Rattle.field_rules.specs.Fields.{kindFaults, slotOf, slotFaults, slotsFaults}
+use Rattle.field_rules.specs.Fields.{noFaults, kindFaults, slotOf, slotFaults, slotsFaults}
 use Rattle.callee_rules.specs.Callees.{Checkable}
 use Rattle.inst_rules.specs.Counted.{Reached, ruleIn}
 
@@ -202,7 +200,17 @@ right-none : (xs ys : List LoadErrorKind) → xs ++ ys ≡ [] → ys ≡ []
 right-none [] ys e = e
 right-none (x ∷ xs) ys e = let z : _≡_ {A = ℕ} 0 1 = cc in absurd (omega arith)
 
-pub fields-reach : (o : Opened) (c : Frame) (i : Inst) {v : Verdict} {code : ℕ} (rule : Rule) → opcode (inst i) < 35 → v ≡ Holds → v ≡ verdictOf (slotsFaults o c i) → code ≡ opcode (inst i)
+none-left : (xs : List LoadErrorKind) → noFaults xs ≡ true → xs ≡ []
+unfolding noFaults
+none-left [] e = refl
+none-left (x ∷ xs) e = let z : _≡_ {A = ℕ} 0 1 = cc in absurd (omega arith)
+
+some-left : (xs ys : List LoadErrorKind) → noFaults xs ≡ false → verdictOf xs ≡ verdictOf (xs ++ ys)
+unfolding noFaults verdictOf
+some-left [] ys e = let z : _≡_ {A = ℕ} 0 1 = cc in absurd (omega arith)
+some-left (x ∷ xs) ys e = refl
+
+pub fields-reach : (o : Opened) (c : Frame) (i : Inst) {v : Bool} {code : ℕ} (rule : Rule) → opcode (inst i) < 35 → v ≡ true → v ≡ noFaults (slotsFaults o c i) → code ≡ opcode (inst i)
     → ruleOf rule ≡ row code .rule → Reached o c (inst i) (ruleOf rule)
 unfolding slotsFaults slotFaults slotOf kindIn
 fields-reach o c i {v} {code} rule l e h k u =
@@ -211,7 +219,7 @@ fields-reach o c i {v} {code} rule l e h k u =
     let b = kindFaults o c (r .B) (slotB (inst i)) in
     let w = kindFaults o c (r .W) (slotW (inst i)) in
     let d = kindFaults o c (r .C) (slotC (inst i)) in
-    let three = left-none (a ++ b ++ w) d (none-broken (slotsFaults o c i) e h) in
+    let three = left-none (a ++ b ++ w) d (none-left (slotsFaults o c i) (sym h ∙ e)) in
     let two = left-none (a ++ b) w three in
     subst (Reached o c (inst i)) (sym (u ∙ ap (λ n. row n .rule) k))
     (reached o c (inst i) r (left-none a b two) (right-none a b two) (right-none (a ++ b) w three) (r .rule) (row-named (opcode (inst i)) l))
@@ -225,16 +233,19 @@ module _ (ws : List ℕ) (o : Opened) (x : Opens ws o) (c : Frame) (y : Framed w
   abbrev Whole-verdict : Verdict → Module.Inst → Type 0
   Whole-verdict r j = r ≡ verdictOf (fieldsFaults (moduleIn ws) (funcOf ws c) (row (opcode j)) j ++ ruleFaults (moduleIn ws) (funcOf ws c) covered j (row (opcode j) .rule))
 
-  module _ (i : Inst) {I : Module.Inst} (z : inst i ≡ I) {v : Verdict} where
-    fields : v ≡ verdictOf (slotsFaults o c i) → v ≡ verdictOf (fieldsFaults (moduleIn ws) (funcOf ws c) (row (opcode (inst i))) (inst i))
-    fields h = h ∙ ap verdictOf (fields-counted ws o x c y i)
+  module _ (i : Inst) {I : Module.Inst} (z : inst i ≡ I) {v : Bool} (h : v ≡ noFaults (slotsFaults o c i)) where
+    abbrev fields : List LoadErrorKind
+    fields = fieldsFaults (moduleIn ws) (funcOf ws c) (row (opcode (inst i))) (inst i)
 
-    pub inst-fields : (k : LoadErrorKind) → v ≡ Broken k → v ≡ verdictOf (slotsFaults o c i) → Whole-verdict (Broken k) I
-    inst-fields k e h = subst (Whole-verdict (Broken k)) z (verdict-stop _ _ k e (fields h))
+    tested : v ≡ noFaults fields
+    tested = h ∙ ap noFaults (fields-counted ws o x c y i)
 
-    pub inst-rule : {code : ℕ} (rule : Rule) {r : Verdict} → v ≡ Holds → v ≡ verdictOf (slotsFaults o c i) → code ≡ opcode (inst i) → ruleOf rule ≡ row code .rule
-        → r ≡ verdictOf (ruleIn ws c covered i rule) → Whole-verdict r I
+    pub inst-fields : {r : Verdict} → v ≡ false → r ≡ verdictOf (slotsFaults o c i) → Whole-verdict r I
+    inst-fields {r} e k = subst (Whole-verdict r) z (k ∙ ap verdictOf (fields-counted ws o x c y i) ∙ some-left fields _ (sym tested ∙ e))
+
+    pub inst-rule : {code : ℕ} (rule : Rule) {r : Verdict} → v ≡ true → code ≡ opcode (inst i) → ruleOf rule ≡ row code .rule → r ≡ verdictOf (ruleIn ws c covered i rule) → Whole-verdict r I
     unfolding ruleIn
-    inst-rule {code} rule {r} e h k u q =
+    inst-rule {code} rule {r} e k u q =
+        let R = ruleFaults (moduleIn ws) (funcOf ws c) covered (inst i) in
         subst (Whole-verdict r) z
-        (verdict-then _ _ e (fields h) (q ∙ ap (λ t. verdictOf (ruleFaults (moduleIn ws) (funcOf ws c) covered (inst i) t)) (u ∙ ap (λ n. row n .rule) k)))
+        (q ∙ ap (λ t. verdictOf (R t)) (u ∙ ap (λ n. row n .rule) k) ∙ ap (λ l. verdictOf (l ++ R (row (opcode (inst i)) .rule))) (sym (none-left fields (sym tested ∙ e))))

@@ -10,6 +10,7 @@ use Rattle.blocks.specs.Blocks.{words}
 use Rattle.blocks.specs.Frame.{firstWords}
 use Rattle.blocks.specs.FirstWords.{length-firstWords}
 use Rattle.error.specs.declared.TypeKind.{TypeKind}
+use Rattle.error.specs.declared.TypeKind.the-variants.{Struct, Array, Map, Cell}
 use Rattle.error.specs.declared.LoadErrorKind.{LoadErrorKind}
 use Rattle.error.specs.declared.LoadErrorKind.the-variants.{TailCallInTry}
 use Rattle.error.specs.declared.Verdict.{Verdict}
@@ -23,10 +24,11 @@ use Rattle.layout.specs.Opened.{moduleIn}
 use Rattle.opening.specs.declared.Opened.{Opened}
 use Rattle.opening.specs.ReadyLaws.{funcs-in}
 use Rattle.code.specs.Callee.{funcAt}
+use Rattle.code.specs.Opcodes as definitions
 use Rattle.code.specs.Code.{isDynRegister, windowFaults, directFaults, hasKind, ruleFaults}
 use Rattle.insts.specs.declared.Inst.{Inst}
 use Rattle.opcodes.specs.declared.Rule.{Rule}
-use Rattle.opcodes.specs.declared.Rule.the-variants.{Free, NoPromote, PromoteToDyn, TailCall, TailCallIndirect, Call, CallIndirect, CallImport, CallShape, MakeClosure, OfKind, Concatenate, Slice, NotToRef, Catchable, WideBits}
+use Rattle.opcodes.specs.declared.Rule.the-variants.{Free, NoPromote, PromoteToDyn, TailCall, TailCallIndirect, Call, CallIndirect, CallImport, CallShape, MakeClosure, NewStruct, NewArray, NewMap, NewCell, Concatenate, Slice, NotToRef, Catchable, WideBits}
 use Rattle.insts.specs.Insts.{inst}
 use Rattle.opcodes.specs.Rules.{ruleOf}
 use Rattle.frames.specs.declared.Frame.{Frame}
@@ -46,6 +48,20 @@ unfolding outsideTry verdictOf
 tried [] true = refl
 tried [] false = refl
 tried (k ∷ ks) b = refl
+
+-- the rule of an instruction that makes a kind of type
+abbrev making : TypeKind → Rule
+making Struct = NewStruct
+making Array = NewArray
+making Map = NewMap
+making Cell = NewCell
+
+made : (k : TypeKind) → ruleOf (making k) ≡ definitions.ofKind k
+unfolding ruleOf
+made Struct = refl
+made Array = refl
+made Map = refl
+made Cell = refl
 
 module _ (b w : List ℕ) (o : Opened) (c : Frame) (x : Checkable (firstWords b (o .layout .words)) w o c) (covered : Bool) (i : Inst) where
   abbrev ws : List ℕ
@@ -220,11 +236,15 @@ module _ (b w : List ℕ) (o : Opened) (c : Frame) (x : Checkable (firstWords b 
 
     -- ── a kind of type ──
 
-    module _ {k : TypeKind} {f : ℕ} (e : rule ≡ OfKind k) where
+    module _ (k : TypeKind) {f : ℕ} (e : rule ≡ making k) where
       pub reach-kind : Reached o c (inst i) (ruleOf rule) → f ≡ slotB (inst i) → f < c .«type_refs»
-      unfolding Reached ruleOf
-      reach-kind h l = omega (arith, l, reach (OfKind k) e h)
+      reach-kind h l =
+          let z : slotB (inst i) < c .«type_refs» = unfold Reached in subst (Reached o c (inst i)) (made k) (reach (making k) e h) in
+          omega (arith, l, z)
 
       pub rule-kind : {r : Verdict} → f ≡ slotB (inst i) → r ≡ verdictOf (wantedFaults k (kindWord (typeAt (m .types) (getD (funcOf ws c .typeRefs) f 0)))) → Answer rule r
-      unfolding ruleIn ruleFaults ruleOf wantedFaults hasKind
-      rule-kind l h = by (OfKind k) e (h ∙ ap (λ y. verdictOf (wantedFaults k (kindWord (typeAt (m .types) (getD (funcOf ws c .typeRefs) y 0))))) l)
+      unfolding ruleIn ruleFaults wantedFaults hasKind
+      rule-kind {r} l h =
+          let z : r ≡ verdictOf (ruleFaults m (funcOf ws c) covered (inst i) (definitions.ofKind k)) =
+          h ∙ ap (λ y. verdictOf (wantedFaults k (kindWord (typeAt (m .types) (getD (funcOf ws c .typeRefs) y 0))))) l in
+          by (making k) e (z ∙ ap (λ u. verdictOf (ruleFaults m (funcOf ws c) covered (inst i) u)) (sym (made k)))

@@ -23,8 +23,10 @@ use callee_rules::check_import;
 use callee_rules::kinds::check_kind;
 use callee_rules::shape_length;
 use error::FuncId;
+use error::TypeKind;
 use error::Verdict;
 use field_rules::check_fields;
+use field_rules::fields_hold;
 use frames::Frame;
 use insts::Inst;
 use insts::opcode;
@@ -74,12 +76,15 @@ fn check_rule(
         Rule::CallImport => check_import(sheet, work, o, c, w, a + 1, d),
         Rule::CallShape => check_window(c, a + 1, shape_length(work, o, b)),
         Rule::MakeClosure => check_window(c, a + 1, capture_count(work, o, FuncId(w))),
-        Rule::OfKind(k) => check_kind(sheet, work, o, c, b, k),
         Rule::Concatenate => check_window(c, b, d),
         Rule::Slice => check_window(c, slot_c(i), 2),
         Rule::NotToRef => check_ref(d),
         Rule::Catchable => check_raise(d),
         Rule::WideBits => check_wide(d),
+        Rule::NewStruct => check_kind(sheet, work, o, c, b, TypeKind::Struct),
+        Rule::NewArray => check_kind(sheet, work, o, c, b, TypeKind::Array),
+        Rule::NewMap => check_kind(sheet, work, o, c, b, TypeKind::Map),
+        Rule::NewCell => check_kind(sheet, work, o, c, b, TypeKind::Cell),
     }
 }
 
@@ -101,12 +106,9 @@ pub fn check_inst(
     ensures { λ r. ⌜ r ≡ verdictOf (fieldsFaults (moduleIn (firstWords (now (sheet .entry)) (o .layout .words))) (funcOf (firstWords (now (sheet .entry)) (o .layout .words)) c) (row (opcode (valueOf unreachable (instOf (firstWords (now (sheet .entry)) (o .layout .words)) at)))) (valueOf unreachable (instOf (firstWords (now (sheet .entry)) (o .layout .words)) at)) ++ ruleFaults (moduleIn (firstWords (now (sheet .entry)) (o .layout .words))) (funcOf (firstWords (now (sheet .entry)) (o .layout .words)) c) covered (valueOf unreachable (instOf (firstWords (now (sheet .entry)) (o .layout .words)) at)) (row (opcode (valueOf unreachable (instOf (firstWords (now (sheet .entry)) (o .layout .words)) at))) .rule)) ⌝ }
 {
     let i = read_inst(sheet, o.layout.words, at);
-    match check_fields(o, c, i) {
-        Verdict::Holds => {}
-        Verdict::Broken(k) => {
-            return Verdict::Broken(k);
-        }
+    if fields_hold(o, c, i) {
+        let rule = rule_of(opcode(i));
+        return check_rule(sheet, work, o, c, i, rule, covered);
     }
-    let rule = rule_of(opcode(i));
-    check_rule(sheet, work, o, c, i, rule, covered)
+    check_fields(o, c, i)
 }

@@ -5,11 +5,12 @@ use mathlib.Core.List.{List, map}
 use mathlib.Core.Bool.{Bool}
 use lib.ListN.{getD}
 use Rattle.lists.specs.ListLaws.{map-at}
+use Rattle.error.specs.declared.TypeKind.the-variants.{Struct, Array, Map, Cell}
 use Rattle.code.specs.declared.FieldKind.the-variants.{Unused}
 use Rattle.code.specs.Opcodes.{Row, step, rows, row}
 use Rattle.code.specs.Opcodes as definitions
 use Rattle.opcodes.specs.declared.Rule.{Rule}
-use Rattle.opcodes.specs.declared.Rule.the-variants.{Free, NoPromote, PromoteToDyn, TailCall, TailCallIndirect, Call, CallIndirect, CallImport, CallShape, MakeClosure, OfKind, Concatenate, Slice, NotToRef, Catchable, WideBits}
+use Rattle.opcodes.specs.declared.Rule.the-variants.{Free, NoPromote, PromoteToDyn, TailCall, TailCallIndirect, Call, CallIndirect, CallImport, CallShape, MakeClosure, NewStruct, NewArray, NewMap, NewCell, Concatenate, Slice, NotToRef, Catchable, WideBits}
 use Rattle.opcodes.specs.Rules.{ruleOf}
 
 other : Row
@@ -38,7 +39,10 @@ coded definitions.callIndirect = CallIndirect
 coded definitions.callImport = CallImport
 coded definitions.callShape = CallShape
 coded definitions.makeClosure = MakeClosure
-coded (definitions.ofKind k) = OfKind k
+coded (definitions.ofKind Struct) = NewStruct
+coded (definitions.ofKind Array) = NewArray
+coded (definitions.ofKind Map) = NewMap
+coded (definitions.ofKind Cell) = NewCell
 coded definitions.concatenate = Concatenate
 coded definitions.slice = Slice
 coded definitions.notToRef = NotToRef
@@ -57,7 +61,10 @@ decoded definitions.callIndirect = refl
 decoded definitions.callImport = refl
 decoded definitions.callShape = refl
 decoded definitions.makeClosure = refl
-decoded (definitions.ofKind k) = refl
+decoded (definitions.ofKind Struct) = refl
+decoded (definitions.ofKind Array) = refl
+decoded (definitions.ofKind Map) = refl
+decoded (definitions.ofKind Cell) = refl
 decoded definitions.concatenate = refl
 decoded definitions.slice = refl
 decoded definitions.notToRef = refl

@@ -1,7 +1,8 @@
 -- Rules as code has them.
+use Rattle.error.specs.declared.TypeKind.the-variants.{Struct, Array, Map, Cell}
 use Rattle.code.specs.Opcodes as definitions
 use Rattle.opcodes.specs.declared.Rule.{Rule}
-use Rattle.opcodes.specs.declared.Rule.the-variants.{Free, NoPromote, PromoteToDyn, TailCall, TailCallIndirect, Call, CallIndirect, CallImport, CallShape, MakeClosure, OfKind, Concatenate, Slice, NotToRef, Catchable, WideBits}
+use Rattle.opcodes.specs.declared.Rule.the-variants.{Free, NoPromote, PromoteToDyn, TailCall, TailCallIndirect, Call, CallIndirect, CallImport, CallShape, MakeClosure, NewStruct, NewArray, NewMap, NewCell, Concatenate, Slice, NotToRef, Catchable, WideBits}
 
 -- a rule as the definitions have it
 unfoldable pub ruleOf : Rule → definitions.Rule
@@ -15,7 +16,10 @@ ruleOf CallIndirect = definitions.callIndirect
 ruleOf CallImport = definitions.callImport
 ruleOf CallShape = definitions.callShape
 ruleOf MakeClosure = definitions.makeClosure
-ruleOf (OfKind k) = definitions.ofKind k
+ruleOf NewStruct = definitions.ofKind Struct
+ruleOf NewArray = definitions.ofKind Array
+ruleOf NewMap = definitions.ofKind Map
+ruleOf NewCell = definitions.ofKind Cell
 ruleOf Concatenate = definitions.concatenate
 ruleOf Slice = definitions.slice
 ruleOf NotToRef = definitions.notToRef

@@ -3,7 +3,6 @@ ghost use mathlib.Core.Path.{_≡_};
 ghost use Prim.Native.Nat.{_<_};
 ghost use Rattle.code.specs.Opcodes.{row};
 ghost use Rattle.opcodes.specs.Rules.{ruleOf};
-use error::TypeKind;
 
 // What an instruction has to keep besides its fields.
 pub enum Rule {
@@ -17,7 +16,10 @@ pub enum Rule {
     CallImport,
     CallShape,
     MakeClosure,
-    OfKind(TypeKind),
+    NewStruct,
+    NewArray,
+    NewMap,
+    NewCell,
     Concatenate,
     Slice,
     NotToRef,
@@ -88,10 +90,10 @@ const RULES: [Rule; 35] = [
     Rule::CallImport, // 21 CallImport
     Rule::MakeClosure, // 22 MakeClosure
     Rule::CallShape, // 23 DCallShape
-    Rule::OfKind(TypeKind::Struct), // 24 NewStruct
-    Rule::OfKind(TypeKind::Array), // 25 NewArray
-    Rule::OfKind(TypeKind::Map), // 26 NewMap
-    Rule::OfKind(TypeKind::Cell), // 27 NewCell
+    Rule::NewStruct, // 24 NewStruct
+    Rule::NewArray, // 25 NewArray
+    Rule::NewMap, // 26 NewMap
+    Rule::NewCell, // 27 NewCell
     Rule::Concatenate, // 28 StrConcatN
     Rule::Slice, // 29 StrSlice
     Rule::NotToRef, // 30 FromDyn

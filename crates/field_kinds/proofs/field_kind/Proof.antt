@@ -1,6 +1,7 @@
 -- `field_kinds::field_kind` meets its contract.
 use borrow.Author.Needs.{needs}
 use native.Mathlib.Omega.{arith}
+use Rattle.field_kinds.specs.Slots.{slotsOf}
 use Rattle.field_kinds.proofs.Fields.{place-in, kind-at}
 use Rattle.field_kinds.proofs.field_kind.Statement.{statement}
 use Rattle.field_kinds.proofs.field_kind.Tie as tie
@@ -18,6 +19,7 @@ index-2-result : tie.Need-index-2-result
 index-2-result c = search (needs, place-in)
 
 returns : tie.Need-returns
+unfolding slotsOf
 returns c = kind-at (c .before .before .args .code) (c .before .place .result) (c .before .before .args .slot) _ _ (search needs) (c .before .place .ensures)
 
 pub field-kind-spec : {M : Type 1} → statement M

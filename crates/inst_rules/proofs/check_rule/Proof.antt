@@ -2,6 +2,7 @@
 use borrow.Author.Needs.{needs}
 use native.Mathlib.Omega.{arith}
 use mathlib.Core.Bool.{true}
+use Rattle.error.specs.declared.TypeKind.the-variants.{Struct, Array, Map, Cell}
 use Rattle.inst_rules.proofs.RuleSteps.{rule-free, rule-no-promote, rule-ref, rule-raise, rule-wide, dyn-within, rule-dyn, rule-indirect, rule-tail-indirect, rule-concatenate, rule-slice, shape-room, shape-few, rule-shape, closure-room, closure-few, rule-closure, reach-tail, reach-call, reach-import, rule-tail, rule-call, rule-import, reach-kind, rule-kind}
 use Rattle.inst_rules.proofs.check_rule.Statement.{statement}
 use Rattle.inst_rules.proofs.check_rule.Tie as tie
@@ -114,12 +115,6 @@ capture-count-requires c κs = closure-room _ _ _ _ (c .before .before .before .
 check-window-requires-4 : tie.Need-check-window-requires-4
 check-window-requires-4 c κs = (omega (arith, c .before .before .before .before .before .before .slot-a .ensures .1), closure-few _ _ _ _ (c .before .before .before .before .before .before .before .before .before .pre .0) true _ (c .before .enum-told10 .given .1) (c .before .before .before .before .before .before .before .before .before .pre .1) (c .before .before .before .slot-w .ensures) (c .capture-count .ensures))
 
-enum-known-rule : tie.Need-enum-known-rule
-enum-known-rule c = search needs
-
-check-kind-requires : tie.Need-check-kind-requires
-check-kind-requires c κs = (c .before .before .before .before .before .before .before .before .before .pre .0 .ready, (c .before .before .before .before .before .before .before .before .before .pre .0 .framed, search (needs, reach-kind)))
-
 enum-told-11 : tie.Need-enum-told-11
 enum-told-11 c = search needs
 
@@ -153,6 +148,30 @@ enum-told-15 c = search needs
 check-wide-requires : tie.Need-check-wide-requires
 check-wide-requires c κs = search needs
 
+enum-told-16 : tie.Need-enum-told-16
+enum-told-16 c = search needs
+
+check-kind-requires : tie.Need-check-kind-requires
+check-kind-requires c κs = (c .before .before .before .before .before .before .before .before .pre .0 .ready, (c .before .before .before .before .before .before .before .before .pre .0 .framed, reach-kind _ _ _ _ (c .before .before .before .before .before .before .before .before .pre .0) true _ Struct (c .enum-told16 .given .1) (c .before .before .before .before .before .before .before .before .pre .1) (c .before .before .before .before .slot-b .ensures .0)))
+
+enum-told-17 : tie.Need-enum-told-17
+enum-told-17 c = search needs
+
+check-kind-requires-2 : tie.Need-check-kind-requires-2
+check-kind-requires-2 c κs = (c .before .before .before .before .before .before .before .before .pre .0 .ready, (c .before .before .before .before .before .before .before .before .pre .0 .framed, reach-kind _ _ _ _ (c .before .before .before .before .before .before .before .before .pre .0) true _ Array (c .enum-told17 .given .1) (c .before .before .before .before .before .before .before .before .pre .1) (c .before .before .before .before .slot-b .ensures .0)))
+
+enum-told-18 : tie.Need-enum-told-18
+enum-told-18 c = search needs
+
+check-kind-requires-3 : tie.Need-check-kind-requires-3
+check-kind-requires-3 c κs = (c .before .before .before .before .before .before .before .before .pre .0 .ready, (c .before .before .before .before .before .before .before .before .pre .0 .framed, reach-kind _ _ _ _ (c .before .before .before .before .before .before .before .before .pre .0) true _ Map (c .enum-told18 .given .1) (c .before .before .before .before .before .before .before .before .pre .1) (c .before .before .before .before .slot-b .ensures .0)))
+
+enum-told-19 : tie.Need-enum-told-19
+enum-told-19 c = search needs
+
+check-kind-requires-4 : tie.Need-check-kind-requires-4
+check-kind-requires-4 c κs = (c .before .before .before .before .before .before .before .before .pre .0 .ready, (c .before .before .before .before .before .before .before .before .pre .0 .framed, reach-kind _ _ _ _ (c .before .before .before .before .before .before .before .before .pre .0) true _ Cell (c .enum-told19 .given .1) (c .before .before .before .before .before .before .before .before .pre .1) (c .before .before .before .before .slot-b .ensures .0)))
+
 returns : tie.Need-returns
 returns c = rule-free _ _ _ _ (c .before .before .before .before .before .before .before .before .pre .0) _ _ (c .enum-told .given .1)
 
@@ -184,22 +203,31 @@ returns-10 : tie.Need-returns-10
 returns-10 c = rule-closure _ _ _ _ (c .before .before .before .before .before .before .before .before .before .before .pre .0) _ _ (c .before .before .enum-told10 .given .1) (c .before .before .before .before .before .before .before .before .before .before .pre .1) (c .before .before .before .before .slot-w .ensures) (c .before .capture-count .ensures) (c .before .before .before .before .before .before .before .slot-a .ensures .0) (c .check-window4 .ensures)
 
 returns-11 : tie.Need-returns-11
-returns-11 c = search (needs, rule-kind)
+returns-11 c = rule-concatenate _ _ _ _ (c .before .before .before .before .before .before .before .before .before .pre .0) _ _ (c .before .enum-told11 .given .1) (c .before .before .before .before .before .slot-b .ensures .0) (c .before .before .before .before .slot-d .ensures .0) (c .check-window5 .ensures)
 
 returns-12 : tie.Need-returns-12
-returns-12 c = rule-concatenate _ _ _ _ (c .before .before .before .before .before .before .before .before .before .pre .0) _ _ (c .before .enum-told11 .given .1) (c .before .before .before .before .before .slot-b .ensures .0) (c .before .before .before .before .slot-d .ensures .0) (c .check-window5 .ensures)
+returns-12 c = rule-slice _ _ _ _ (c .before .before .before .before .before .before .before .before .before .before .pre .0) _ _ (c .before .before .enum-told12 .given .1) (c .before .slot-c .ensures .0) (c .check-window6 .ensures)
 
 returns-13 : tie.Need-returns-13
-returns-13 c = rule-slice _ _ _ _ (c .before .before .before .before .before .before .before .before .before .before .pre .0) _ _ (c .before .before .enum-told12 .given .1) (c .before .slot-c .ensures .0) (c .check-window6 .ensures)
+returns-13 c = rule-ref _ _ _ _ (c .before .before .before .before .before .before .before .before .before .pre .0) _ _ (c .before .enum-told13 .given .1) (c .before .before .before .before .slot-d .ensures .0) (c .check-ref .ensures)
 
 returns-14 : tie.Need-returns-14
-returns-14 c = rule-ref _ _ _ _ (c .before .before .before .before .before .before .before .before .before .pre .0) _ _ (c .before .enum-told13 .given .1) (c .before .before .before .before .slot-d .ensures .0) (c .check-ref .ensures)
+returns-14 c = rule-raise _ _ _ _ (c .before .before .before .before .before .before .before .before .before .pre .0) _ _ (c .before .enum-told14 .given .1) (c .before .before .before .before .slot-d .ensures .0) (c .check-raise .ensures)
 
 returns-15 : tie.Need-returns-15
-returns-15 c = rule-raise _ _ _ _ (c .before .before .before .before .before .before .before .before .before .pre .0) _ _ (c .before .enum-told14 .given .1) (c .before .before .before .before .slot-d .ensures .0) (c .check-raise .ensures)
+returns-15 c = rule-wide _ _ _ _ (c .before .before .before .before .before .before .before .before .before .pre .0) _ _ (c .before .enum-told15 .given .1) (c .before .before .before .before .slot-d .ensures .0) (c .check-wide .ensures)
 
 returns-16 : tie.Need-returns-16
-returns-16 c = rule-wide _ _ _ _ (c .before .before .before .before .before .before .before .before .before .pre .0) _ _ (c .before .enum-told15 .given .1) (c .before .before .before .before .slot-d .ensures .0) (c .check-wide .ensures)
+returns-16 c = rule-kind _ _ _ _ (c .before .before .before .before .before .before .before .before .before .pre .0) _ _ Struct (c .before .enum-told16 .given .1) (c .before .before .before .before .before .slot-b .ensures .0) (c .check-kind .ensures)
+
+returns-17 : tie.Need-returns-17
+returns-17 c = rule-kind _ _ _ _ (c .before .before .before .before .before .before .before .before .before .pre .0) _ _ Array (c .before .enum-told17 .given .1) (c .before .before .before .before .before .slot-b .ensures .0) (c .check-kind2 .ensures)
+
+returns-18 : tie.Need-returns-18
+returns-18 c = rule-kind _ _ _ _ (c .before .before .before .before .before .before .before .before .before .pre .0) _ _ Map (c .before .enum-told18 .given .1) (c .before .before .before .before .before .slot-b .ensures .0) (c .check-kind3 .ensures)
+
+returns-19 : tie.Need-returns-19
+returns-19 c = rule-kind _ _ _ _ (c .before .before .before .before .before .before .before .before .before .pre .0) _ _ Cell (c .before .enum-told19 .given .1) (c .before .before .before .before .before .slot-b .ensures .0) (c .check-kind4 .ensures)
 
 pub check-rule-spec : {M : Type 1} → statement M
 check-rule-spec =
@@ -241,8 +269,6 @@ check-rule-spec =
     add-check-window-3
     capture-count-requires
     check-window-requires-4
-    enum-known-rule
-    check-kind-requires
     enum-told-11
     check-window-requires-5
     enum-told-12
@@ -254,6 +280,14 @@ check-rule-spec =
     check-raise-requires
     enum-told-15
     check-wide-requires
+    enum-told-16
+    check-kind-requires
+    enum-told-17
+    check-kind-requires-2
+    enum-told-18
+    check-kind-requires-3
+    enum-told-19
+    check-kind-requires-4
     returns
     returns-2
     returns-3
@@ -269,4 +303,7 @@ check-rule-spec =
     returns-13
     returns-14
     returns-15
-    returns-16)
+    returns-16
+    returns-17
+    returns-18
+    returns-19)

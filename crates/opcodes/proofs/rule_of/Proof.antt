@@ -4,9 +4,6 @@ use Rattle.opcodes.proofs.Tables.{rule-at}
 use Rattle.opcodes.proofs.rule_of.Statement.{statement}
 use Rattle.opcodes.proofs.rule_of.Tie as tie
 
-mul-result : tie.Need-mul-result
-mul-result c = search needs
-
 array-copy-out-result : tie.Need-array-copy-out-result
 array-copy-out-result c = search needs
 
@@ -14,4 +11,4 @@ returns : tie.Need-returns
 returns c = rule-at (c .before .args .code) _ (search needs)
 
 pub rule-of-spec : {M : Type 1} → statement M
-rule-of-spec = tie.close (tie.spec mul-result array-copy-out-result returns)
+rule-of-spec = tie.close (tie.spec array-copy-out-result returns)
