@@ -94,9 +94,3 @@ module _ (sheet hosts table work : List ℕ) {i : Inputs} (e : i ≡ inputsOf (c
     pub intact-work : {v : List ℕ} → Zeroed work v → v ≡ workAfter sheet hosts table work
     unfolding workAfter workThen Zeroed
     intact-work q = q ∙ sym (ap (λ (x : load.Opened). workThen x work) opens)
-
--- ── the size of the index ──
-
--- the count as code reads it
-pub few-counted : {c n m : ℕ} → c ≡ n → c ≤ m → n ≤ m
-few-counted e h = omega arith

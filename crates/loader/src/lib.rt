@@ -62,31 +62,6 @@ fn load_few(sheet: &[u8], hosts: &[u8], table: &mut [u32], work: &mut [u32]) -> 
     with_few(sheet, hosts, table, work, &mut index)
 }
 
-fn with_more(
-    sheet: &[u8],
-    hosts: &[u8],
-    table: &mut [u32],
-    work: &mut [u32],
-    index: &mut [u32; 49153],
-) -> Loaded
-    requires { ⌜ getD (words (now hosts)) 2 0 ≤ 16384 ⌝ }
-    ensures { λ r. ⌜ r ≡ load (now (sheet .entry)) (now (hosts .entry)) (length (now (table .entry))) (length (now (work .entry))) ⌝ }
-    ensures { λ r. ⌜ now (table .exit) ≡ tableAfter (now (sheet .entry)) (now (hosts .entry)) (now (table .entry)) (now (work .entry)) ⌝ }
-    ensures { λ r. ⌜ now (work .exit) ≡ workAfter (now (sheet .entry)) (now (hosts .entry)) (now (table .entry)) (now (work .entry)) ⌝ }
-{
-    load_with(sheet, hosts, table, work, index)
-}
-
-fn load_more(sheet: &[u8], hosts: &[u8], table: &mut [u32], work: &mut [u32]) -> Loaded
-    requires { ⌜ getD (words (now hosts)) 2 0 ≤ 16384 ⌝ }
-    ensures { λ r. ⌜ r ≡ load (now (sheet .entry)) (now (hosts .entry)) (length (now (table .entry))) (length (now (work .entry))) ⌝ }
-    ensures { λ r. ⌜ now (table .exit) ≡ tableAfter (now (sheet .entry)) (now (hosts .entry)) (now (table .entry)) (now (work .entry)) ⌝ }
-    ensures { λ r. ⌜ now (work .exit) ≡ workAfter (now (sheet .entry)) (now (hosts .entry)) (now (table .entry)) (now (work .entry)) ⌝ }
-{
-    let mut index = [0u32; 49153];
-    with_more(sheet, hosts, table, work, &mut index)
-}
-
 // An index for any list.
 fn with_most(
     sheet: &[u8],
@@ -102,32 +77,17 @@ fn with_most(
     load_with(sheet, hosts, table, work, index)
 }
 
-fn load_most(sheet: &[u8], hosts: &[u8], table: &mut [u32], work: &mut [u32]) -> Loaded
+// It can call itself, so that the compiler keeps its large frame out of its caller's: a short list takes little stack.
+fn load_most(sheet: &[u8], hosts: &[u8], table: &mut [u32], work: &mut [u32], left: u32) -> Loaded
     ensures { λ r. ⌜ r ≡ load (now (sheet .entry)) (now (hosts .entry)) (length (now (table .entry))) (length (now (work .entry))) ⌝ }
     ensures { λ r. ⌜ now (table .exit) ≡ tableAfter (now (sheet .entry)) (now (hosts .entry)) (now (table .entry)) (now (work .entry)) ⌝ }
     ensures { λ r. ⌜ now (work .exit) ≡ workAfter (now (sheet .entry)) (now (hosts .entry)) (now (table .entry)) (now (work .entry)) ⌝ }
 {
+    if 0 < left {
+        return load_most(sheet, hosts, table, work, left - 1);
+    }
     let mut index = [0u32; 390142];
     with_most(sheet, hosts, table, work, &mut index)
-}
-
-// One index for a call: of a function that calls itself the compiler keeps large frames apart, so a short list takes little stack.
-fn load_by(sheet: &[u8], hosts: &[u8], table: &mut [u32], work: &mut [u32], left: u32) -> Loaded
-    ensures { λ r. ⌜ r ≡ load (now (sheet .entry)) (now (hosts .entry)) (length (now (table .entry))) (length (now (work .entry))) ⌝ }
-    ensures { λ r. ⌜ now (table .exit) ≡ tableAfter (now (sheet .entry)) (now (hosts .entry)) (now (table .entry)) (now (work .entry)) ⌝ }
-    ensures { λ r. ⌜ now (work .exit) ≡ workAfter (now (sheet .entry)) (now (hosts .entry)) (now (table .entry)) (now (work .entry)) ⌝ }
-{
-    if left == 0 {
-        return load_most(sheet, hosts, table, work);
-    }
-    let count = word(hosts, 2);
-    if count <= 512 {
-        return load_few(sheet, hosts, table, work);
-    }
-    if count <= 16384 {
-        return load_more(sheet, hosts, table, work);
-    }
-    load_by(sheet, hosts, table, work, left - 1)
 }
 
 // The verdict on any sheet and host list; where it is accepted, the linked table.
@@ -136,5 +96,9 @@ pub fn load(sheet: &[u8], hosts: &[u8], table: &mut [u32], work: &mut [u32]) -> 
     ensures { λ r. ⌜ now (table .exit) ≡ tableAfter (now (sheet .entry)) (now (hosts .entry)) (now (table .entry)) (now (work .entry)) ⌝ }
     ensures { λ r. ⌜ now (work .exit) ≡ workAfter (now (sheet .entry)) (now (hosts .entry)) (now (table .entry)) (now (work .entry)) ⌝ }
 {
-    load_by(sheet, hosts, table, work, 1)
+    let count = word(hosts, 2);
+    if count <= 512 {
+        return load_few(sheet, hosts, table, work);
+    }
+    load_most(sheet, hosts, table, work, count / 4294967295)
 }
