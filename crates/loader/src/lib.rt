@@ -77,8 +77,8 @@ fn with_most(
     load_with(sheet, hosts, table, work, index)
 }
 
-// It can call itself, so that the compiler keeps its large frame out of its caller's: a short list takes little stack.
-fn load_most(sheet: &[u8], hosts: &[u8], table: &mut [u32], work: &mut [u32], left: u32) -> Loaded
+// It could call itself, so the compiler keeps its large frame out of its caller's: a short list takes little stack.
+fn load_most(sheet: &[u8], hosts: &[u8], table: &mut [u32], work: &mut [u32], left: usize) -> Loaded
     ensures { λ r. ⌜ r ≡ load (now (sheet .entry)) (now (hosts .entry)) (length (now (table .entry))) (length (now (work .entry))) ⌝ }
     ensures { λ r. ⌜ now (table .exit) ≡ tableAfter (now (sheet .entry)) (now (hosts .entry)) (now (table .entry)) (now (work .entry)) ⌝ }
     ensures { λ r. ⌜ now (work .exit) ≡ workAfter (now (sheet .entry)) (now (hosts .entry)) (now (table .entry)) (now (work .entry)) ⌝ }
@@ -96,9 +96,9 @@ pub fn load(sheet: &[u8], hosts: &[u8], table: &mut [u32], work: &mut [u32]) -> 
     ensures { λ r. ⌜ now (table .exit) ≡ tableAfter (now (sheet .entry)) (now (hosts .entry)) (now (table .entry)) (now (work .entry)) ⌝ }
     ensures { λ r. ⌜ now (work .exit) ≡ workAfter (now (sheet .entry)) (now (hosts .entry)) (now (table .entry)) (now (work .entry)) ⌝ }
 {
-    let count = word(hosts, 2);
-    if count <= 512 {
+    if word(hosts, 2) <= 512 {
         return load_few(sheet, hosts, table, work);
     }
-    load_most(sheet, hosts, table, work, count / 4294967295)
+    // No slice is so long that this is not 0.
+    load_most(sheet, hosts, table, work, hosts.len() / 9223372036854775808)
 }
