@@ -4,7 +4,8 @@
  * Link target/staticlib/libpaqlluri.a, which `rt staticlib paqlluri` proves and writes (x86-64, System V ABI).
  * It needs memcpy and memset and nothing else: no heap, no files, no globals. The calls are reentrant, and
  * threads may call them at once on slices of their own, or share a linked table that none of them writes.
- * A call takes less than 96 KiB of stack (80 KB were measured, on a chain of 256 types).
+ * A call takes less than 96 KiB of stack where the host list has at most 512 entries (80 KB were measured, on a
+ * chain of 256 types), and 1.6 MB more where it has more or says so: 2 MiB are enough for any bytes.
  *
  * A slice is a pointer and a count of elements. Any bytes and words may stand in it: nothing need be checked
  * before a call, and every call returns. What is asked of the pointers is what C asks:

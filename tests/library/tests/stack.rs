@@ -1,31 +1,69 @@
-//! A call on the deepest families needs no more stack than the bindings say.
+//! A call needs no more stack than the bindings say.
 
 use std::thread;
 
-use sheets::build::structure;
-use sheets::{encode_hosts, encode_sheet, Sheet};
+use sheets::build::{structure, user};
+use sheets::{encode_hosts, encode_sheet, refit, Sheet};
 use versus::{Library, Loader};
 
-/// What the bindings say, and something for the thread itself.
+/// What the bindings say of short host lists, and something for the thread itself.
 const STACK: usize = (96 + 16) * 1024;
+
+/// What the bindings say of any bytes.
+const MOST_STACK: usize = 2 * 1024 * 1024;
+
+/// The kind of the answer of a call on a thread with so much stack.
+fn kind_on(stack: usize, sheet: Vec<u8>, hosts: Vec<u8>) -> u32 {
+    let words = paqlluri::table_words(sheet.len());
+    let (mut table, mut work) = (vec![0; words], vec![0; words]);
+    let call = move || Library.load(&sheet, &hosts, &mut table, &mut work);
+    let thread = thread::Builder::new().stack_size(stack).spawn(call);
+    thread.expect("a thread").join().expect("an answer")[0]
+}
+
+/// A sheet of one chain of so many types.
+fn chain(types: u32) -> Vec<u8> {
+    encode_sheet(&Sheet {
+        strings: vec![b"Lift".to_vec()],
+        types: (0..types)
+            .map(|t| structure(t.checked_sub(1), &[]))
+            .collect(),
+        ..Sheet::default()
+    })
+    .to_bytes()
+}
+
+/// A list of so many functions.
+fn list(entries: usize) -> Vec<u8> {
+    let entries: Vec<_> = (0..entries).map(|k| user("", &format!("{k:x}"))).collect();
+    encode_hosts(&entries).to_bytes()
+}
 
 #[test]
 fn the_longest_chains_fit_the_stack() {
     for (types, kind) in [(256, 0), (257, 17)] {
-        let sheet = encode_sheet(&Sheet {
-            strings: vec![b"Lift".to_vec()],
-            types: (0..types)
-                .map(|t: u32| structure(t.checked_sub(1), &[]))
-                .collect(),
-            ..Sheet::default()
-        })
-        .to_bytes();
-        let hosts = encode_hosts(&[]).to_bytes();
-        let words = paqlluri::table_words(sheet.len());
-        let (mut table, mut work) = (vec![0; words], vec![0; words]);
-        let call = move || Library.load(&sheet, &hosts, &mut table, &mut work);
-        let thread = thread::Builder::new().stack_size(STACK).spawn(call);
-        let numbers = thread.expect("a thread").join().expect("an answer");
-        assert_eq!(numbers[0], kind);
+        assert_eq!(kind_on(STACK, chain(types), list(0)), kind);
+    }
+}
+
+#[test]
+fn a_list_of_512_fits_the_small_stack() {
+    assert_eq!(kind_on(STACK, chain(256), list(512)), 0);
+}
+
+#[test]
+fn longer_lists_fit_the_stack_of_a_thread() {
+    for entries in [513, 60_000] {
+        assert_eq!(kind_on(MOST_STACK, chain(256), list(entries)), 0);
+    }
+}
+
+#[test]
+fn a_count_that_is_not_there_fits_too() {
+    for count in [513, u32::MAX / 2, u32::MAX] {
+        let mut hosts = list(0);
+        hosts[8..12].copy_from_slice(&count.to_le_bytes());
+        refit(&mut hosts);
+        assert_eq!(kind_on(MOST_STACK, chain(2), hosts), 23);
     }
 }
