@@ -3,145 +3,160 @@
 mod shapes;
 
 use std::hint::black_box;
+use std::process::ExitCode;
 use std::time::Instant;
 
+use paqlluri::{load, table_words, Linked, TypeId};
 use shapes::{bytes, Shape, SHAPES};
 
-#[link(name = "paqlluri", kind = "static")]
-extern "C" {
-    fn paqlluri_load(
-        sheet: *const u8,
-        sheet_len: usize,
-        hosts: *const u8,
-        hosts_len: usize,
-        table: *mut u32,
-        table_len: usize,
-        work: *mut u32,
-        work_len: usize,
-        answer: *mut u32,
-    );
-}
+const USAGE: &str = "usage:
+  speed                              every shape, five sizes each
+  speed SHAPE                        one of them
+  speed descends                     the family query
+  speed ours|rust|none SHAPE N       one call, for a count of instructions";
 
+/// A sheet, its host list, and what a call is lent.
 struct Lent {
+    sheet: Vec<u8>,
+    hosts: Vec<u8>,
     table: Vec<u32>,
     work: Vec<u32>,
 }
 
-fn ours(sheet: &[u8], hosts: &[u8], lent: &mut Lent) -> [u32; 6] {
-    let mut answer = [0u32; 6];
-    // SAFETY: every pointer comes from a slice with its length, and none of them overlap.
-    unsafe {
-        paqlluri_load(
-            sheet.as_ptr(),
-            sheet.len(),
-            hosts.as_ptr(),
-            hosts.len(),
-            lent.table.as_mut_ptr(),
-            lent.table.len(),
-            lent.work.as_mut_ptr(),
-            lent.work.len(),
-            answer.as_mut_ptr(),
-        );
+impl Lent {
+    fn new(shape: &Shape, n: usize) -> Lent {
+        let (sheet, hosts) = bytes(shape, n);
+        let words = table_words(sheet.len());
+        Lent {
+            sheet,
+            hosts,
+            table: vec![0; words],
+            work: vec![0; words],
+        }
     }
-    answer
+
+    /// Our call: the whole of it, the table written and work zeroed.
+    fn ours(&mut self) -> Linked<'_> {
+        let (sheet, hosts) = (black_box(&self.sheet), black_box(&self.hosts));
+        load(sheet, hosts, &mut self.table, &mut self.work).expect("an accepted sheet")
+    }
+
+    /// The reference: both files decoded, the registry of hosts, `Program::load`.
+    fn rust(&self) -> bvm_lang::Program {
+        let words = self.table.len() as u32;
+        let (sheet, hosts) = (black_box(&self.sheet), black_box(&self.hosts));
+        let loaded = compare::load(sheet, hosts, words, words);
+        loaded.expect("an accepted sheet").0
+    }
 }
 
-/// The least time of some runs, in nanoseconds.
-fn least(mut run: impl FnMut() -> u128) -> f64 {
+/// The least time of some runs in nanoseconds; what a run gives is dropped after its time was taken.
+fn least<T>(mut run: impl FnMut() -> T) -> f64 {
     let mut best = u128::MAX;
     let began = Instant::now();
     let mut runs = 0;
     while runs < 3 || (began.elapsed().as_millis() < 300 && runs < 10_000) {
-        best = best.min(run());
+        let start = Instant::now();
+        let result = black_box(run());
+        best = best.min(start.elapsed().as_nanos());
+        drop(result);
         runs += 1;
     }
     best as f64
 }
 
-fn measure(shape: &Shape, n: usize) -> (usize, usize, f64, f64) {
-    let (sheet, hosts) = bytes(shape, n);
-    let words = 64 + 8 * (sheet.len() / 512 * 127);
-    let mut lent = Lent {
-        table: vec![0; words],
-        work: vec![0; words],
-    };
-    let said = ours(&sheet, &hosts, &mut lent);
-    assert_eq!(said[0], 0, "{} {n}: refused {said:?}", shape.name);
-    let mine = least(|| {
-        let t = Instant::now();
-        black_box(ours(black_box(&sheet), black_box(&hosts), &mut lent));
-        t.elapsed().as_nanos()
-    });
-    let rust = least(|| {
-        let t = Instant::now();
-        let p = black_box(compare::load(
-            black_box(&sheet),
-            black_box(&hosts),
-            words as u32,
-            words as u32,
-        ));
-        let e = t.elapsed().as_nanos();
-        assert!(p.is_ok(), "{} {n}: the reference refuses", shape.name);
-        e
-    });
-    (sheet.len() / 512, hosts.len() / 512, mine, rust)
+/// Five sizes, each eight times the one before.
+fn sizes(most: usize) -> Vec<usize> {
+    let all = [4096, 512, 64, 8, 1].map(|d| most / d);
+    all.into_iter().filter(|&n| n > 1).collect()
 }
 
-fn main() {
-    let args: Vec<String> = std::env::args().skip(1).collect();
-    if let [who, name, n] = &args[..] {
-        let shape = SHAPES.iter().find(|s| s.name == name).expect("a shape");
-        let (sheet, hosts) = bytes(shape, n.parse().expect("a number"));
-        let words = 64 + 8 * (sheet.len() / 512 * 127);
-        let mut lent = Lent {
-            table: vec![0; words],
-            work: vec![0; words],
-        };
-        match who.as_str() {
-            "ours" => {
-                black_box(ours(&sheet, &hosts, &mut lent));
-            }
-            "rust" => {
-                let _ = black_box(compare::load(&sheet, &hosts, words as u32, words as u32));
-            }
-            _ => {}
-        }
-        return;
+fn table(shape: &Shape) {
+    let mut last: Option<(f64, f64)> = None;
+    for n in sizes(shape.most) {
+        let mut lent = Lent::new(shape, n);
+        let ours = least(|| lent.ours().words().len());
+        let rust = least(|| lent.rust());
+        let blocks = |bytes: &[u8]| bytes.len() / sheets::BLOCK;
+        let (sheet, hosts) = (blocks(&lent.sheet), blocks(&lent.hosts));
+        let size = (sheet + hosts) as f64;
+        let exponent = last.map_or(String::new(), |(s, t)| {
+            format!("{:.2}", (ours / t).ln() / (size / s).ln())
+        });
+        let (name, ratio) = (shape.name, rust / ours);
+        let (mine, theirs) = (ours / 1e3, rust / 1e3);
+        println!("| {name} | {n} | {sheet} | {hosts} | {mine:.1} | {theirs:.1} | {ratio:.2} | {exponent} |");
+        last = Some((size, ours));
     }
-    println!("| shape | n | blocks | host blocks | ours µs | program.rs µs | ratio | growth ours | growth rust |");
-    println!("|---|---|---|---|---|---|---|---|---|");
-    for shape in SHAPES {
-        if let [only] = &args[..] {
-            if shape.name != only {
-                continue;
+}
+
+/// Queries over types spread through chains of 256, a million of them.
+fn descends(shape: &Shape) {
+    const QUERIES: u32 = 1_000_000;
+    for n in sizes(shape.most) {
+        let mut lent = Lent::new(shape, n);
+        let program = lent.rust();
+        let linked = lent.ours();
+        let pair = |k: u32| {
+            let t = k.wrapping_mul(2_654_435_761) % n as u32;
+            (t, t - k % 256 % (t + 1))
+        };
+        let ask = |yes: &dyn Fn(u32, u32) -> bool| {
+            (0..QUERIES)
+                .filter(|&k| {
+                    let (t, a) = pair(k);
+                    yes(t, a)
+                })
+                .count()
+        };
+        let ours = |t, a| linked.descends(TypeId(t), TypeId(a));
+        let rust = |t, a| bvm_lang::descends(&program, t, a);
+        assert_eq!(ask(&ours), ask(&rust), "the answers differ");
+        let each = |time: f64| time / f64::from(QUERIES);
+        let (mine, theirs) = (each(least(|| ask(&ours))), each(least(|| ask(&rust))));
+        let ratio = theirs / mine;
+        println!("| descends | {n} | {mine:.1} | {theirs:.1} | {ratio:.2} |");
+    }
+}
+
+fn shape(name: &str) -> Option<&'static Shape> {
+    SHAPES.iter().find(|s| s.name == name)
+}
+
+/// None where the arguments are wrong.
+fn run(args: &[String]) -> Option<()> {
+    let args: Vec<&str> = args.iter().map(String::as_str).collect();
+    match args[..] {
+        [who, name, n] => {
+            let mut lent = Lent::new(shape(name)?, n.parse().ok()?);
+            match who {
+                "ours" => drop(black_box(lent.ours())),
+                "rust" => drop(black_box(lent.rust())),
+                "none" => drop(black_box(lent)),
+                _ => return None,
             }
         }
-        let mut last: Option<(f64, f64, f64)> = None;
-        let mut sizes = Vec::new();
-        let mut n = shape.most;
-        while n >= 1 && sizes.len() < 5 {
-            sizes.push(n);
-            n /= 8;
-        }
-        sizes.reverse();
-        for n in sizes {
-            if n < 2 {
-                continue;
-            }
-            let (b, h, mine, rust) = measure(shape, n);
-            let size = (b + h) as f64;
-            let g = last.map_or(String::from("|"), |(s, m, r)| {
-                let f = (size / s).ln();
-                format!("{:.2} | {:.2}", (mine / m).ln() / f, (rust / r).ln() / f)
-            });
+        ["descends"] => descends(shape("chains")?),
+        [name] => table(shape(name)?),
+        [] => {
             println!(
-                "| {} | {n} | {b} | {h} | {:.1} | {:.1} | {:.2} | {g} |",
-                shape.name,
-                mine / 1e3,
-                rust / 1e3,
-                rust / mine
+                "| shape | n | blocks | of hosts | ours µs | program.rs µs | ratio | exponent |"
             );
-            last = Some((size, mine, rust));
+            println!("|---|---|---|---|---|---|---|---|");
+            SHAPES.iter().for_each(table);
+        }
+        _ => return None,
+    }
+    Some(())
+}
+
+fn main() -> ExitCode {
+    let args: Vec<String> = std::env::args().skip(1).collect();
+    match run(&args) {
+        Some(()) => ExitCode::SUCCESS,
+        None => {
+            eprintln!("{USAGE}");
+            ExitCode::from(2)
         }
     }
 }

@@ -98,8 +98,10 @@ fn texts(n: usize, stem: &str) -> Vec<Vec<u8>> {
 /// n families of a tariff: for each, three structs, an array and a map of them, a function of some
 /// twenty instructions with a handler, a constant, a global and an import.
 fn ordinary(n: usize) -> (Sheet, Vec<HostEntry>) {
-    let mut sheet = Sheet::default();
-    sheet.strings = texts(4 * n + 1, "tariff.item.");
+    let mut sheet = Sheet {
+        strings: texts(4 * n + 1, "tariff.item."),
+        ..Sheet::default()
+    };
     sheet.types.push(func(&[DYN, DYN], &[DYN]));
     let mut hosts = Vec::new();
     for k in 0..n as u32 {
