@@ -20,13 +20,15 @@ use Rattle.blocks.specs.ByteAccessLaws.{weighed-step}
 -- ── a word ──
 
 module _ (b : List ℕ) (i : ℕ) where
-  pub word-inside : {r : ℕ} → i / 127 < length b / 512 → r ≡ wordAt b (byteOf i) → r ≡ getD (words b) i 0
+  pub word-inside : {block r : ℕ} → block ≡ i / 127 → block < length b / 512 → r ≡ wordAt b (4 * (i + block)) → r ≡ getD (words b) i 0
   unfolding blockCount
-  word-inside h e = e ∙ sym (word-bytes-at b i (omega arith))
+  word-inside {block} k h e =
+      let p : 4 * (i + block) ≡ byteOf i = omega (arith, k) in
+      e ∙ ap (wordAt b) p ∙ sym (word-bytes-at b i (omega (arith, k)))
 
-  pub word-past : length b / 512 ≤ i / 127 → 0 ≡ getD (words b) i 0
+  pub word-past : {block : ℕ} → block ≡ i / 127 → length b / 512 ≤ block → 0 ≡ getD (words b) i 0
   unfolding blockCount
-  word-past h = sym (List·getD-eq-default (words b) 0 {n = i} (omega (arith, length-words b)))
+  word-past k h = sym (List·getD-eq-default (words b) 0 {n = i} (omega (arith, k, length-words b)))
 
 -- ── a check sum ──
 
