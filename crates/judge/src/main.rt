@@ -1,15 +1,32 @@
-// Prints of each file that the arguments name the six numbers of its answer, no table being written: an accepted sheet has length 0.
+// Prints of each file that the arguments name the verdict that `load` gives, as six numbers; the length of an accepted sheet's table is left out.
 // The host list is the file `hosts`.
 use console::print_numbers;
 use console::read_file;
+use error::numbers::SixNumbers;
 use error::numbers::numbers;
 use libc::STDOUT_FILENO;
-use verdict::judge;
+use loader::load;
 
-// 16 blocks hold 2,032 words, for which 16,320 words of work are enough.
+// An accepted sheet gives six zeros, so that what is stored was written from the rules alone.
+fn verdict(n: SixNumbers) -> SixNumbers {
+    if n.kind == 0 {
+        return SixNumbers {
+            kind: 0,
+            word: 0,
+            number: 0,
+            second: 0,
+            func: 0,
+            pc: 0,
+        };
+    }
+    n
+}
+
+// 16 blocks hold 2,032 words, for which 16,320 words of table and of work are enough.
 fn report(sheet: &[u8], hosts: &[u8]) {
+    let mut table = [0u32; 16320];
     let mut work = [0u32; 16320];
-    print_numbers(numbers(judge(sheet, hosts, &mut work)));
+    print_numbers(verdict(numbers(load(sheet, hosts, &mut table, &mut work))));
 }
 
 fn report_first(bytes: &[u8], n: usize, list: &[u8], m: usize) {

@@ -13,6 +13,7 @@ const USAGE: &str = "usage:
   speed                              every shape, five sizes each
   speed SHAPE                        one of them
   speed descends                     the family query
+  speed shapes                       their names and largest sizes
   speed ours|rust|none SHAPE N       one call, for a count of instructions";
 
 /// A sheet, its host list, and what a call is lent.
@@ -131,12 +132,15 @@ fn run(args: &[String]) -> Option<()> {
             let mut lent = Lent::new(shape(name)?, n.parse().ok()?);
             match who {
                 "ours" => drop(black_box(lent.ours())),
-                "rust" => drop(black_box(lent.rust())),
+                "rust" => std::mem::forget(black_box(lent.rust())),
                 "none" => drop(black_box(lent)),
                 _ => return None,
             }
         }
         ["descends"] => descends(shape("chains")?),
+        ["shapes"] => SHAPES
+            .iter()
+            .for_each(|s| println!("  {} {}", s.name, s.most)),
         [name] => table(shape(name)?),
         [] => {
             println!(
