@@ -15,6 +15,11 @@ use Rattle.reader.specs.Step.{stepOf}
 use Rattle.reader.specs.StepLaws.{word-read, word-none, arrived, stuck, make}
 use Rattle.reader.specs.AlikeLaws.{two-on, ends-alike, then-alike, into-alike}
 use Rattle.reader.specs.RecordSteps.{Sized, sized-next, sized-end, sized-word, sized-list, lists-alike}
+use Rattle.sheet_reader.specs.declared.Taken.{Taken}
+use Rattle.sheet_reader.specs.declared.Taken.the-variants.{Word}
+use Rattle.sheet_reader.specs.declared.Taken.the-variants as taken
+use Rattle.sheet_reader.specs.Taken.{takenOf}
+use Rattle.sheet_reader.specs.TakenLaws.{word-taken, none-taken}
 use Rattle.sheet.specs.Module.{ValueType, Arg, Handler, Switch, Inst, opcode}
 use Rattle.sheet.specs.Decode.{valueType, paramList, argOf, handlerOf, switchOf, knownCode, instOf, functionOf}
 use Rattle.func_layout.specs.Halves.{frameHalf, bodyOf, codeHalf}
@@ -33,14 +38,14 @@ handler-sized =
 
 -- ── jump tables ──
 
-module _ (bytes : List ℕ) (n at p : ℕ) {r : Step} where
-  pub switch-next : r ≡ Next p → r ≡ stepOf (listOf (many 1 word) (firstWords bytes n) at) → p < n → Next (p + 1) ≡ stepOf (switchOf (firstWords bytes n) at)
+module _ (ws : List ℕ) (at p : ℕ) {r : Step} (e : r ≡ Next p) (k : r ≡ stepOf (listOf (many 1 word) ws at)) {t : Taken} where
+  pub switch-next : (w q : ℕ) → t ≡ Word w q → t ≡ takenOf (word ws p) → Next q ≡ stepOf (switchOf ws at)
   unfolding switchOf stepOf
-  switch-next e k h = arrived (listOf word (firstWords bytes n) at) e (sized-list sized-word (firstWords bytes n) at k) λ t g. rw (g, word-read bytes n p h refl)
+  switch-next w q h l = arrived (listOf word ws at) e (sized-list sized-word ws at k) λ ts g. rw (g, word-taken (word ws p) h l)
 
-  pub switch-short : r ≡ Next p → r ≡ stepOf (listOf (many 1 word) (firstWords bytes n) at) → n ≤ p → Broken ≡ stepOf (switchOf (firstWords bytes n) at)
+  pub switch-short : t ≡ taken.Broken → t ≡ takenOf (word ws p) → Broken ≡ stepOf (switchOf ws at)
   unfolding switchOf stepOf
-  switch-short e k h = arrived (listOf word (firstWords bytes n) at) e (sized-list sized-word (firstWords bytes n) at k) λ t g. rw (g, word-none bytes n p h)
+  switch-short h l = arrived (listOf word ws at) e (sized-list sized-word ws at k) λ ts g. rw (g, none-taken (word ws p) h l)
 
 pub switch-stop : (ws : List ℕ) (at : ℕ) {r : Step} → r ≡ Broken → r ≡ stepOf (listOf (many 1 word) ws at) → Broken ≡ stepOf (switchOf ws at)
 unfolding switchOf stepOf

@@ -9,6 +9,8 @@ use blocks::word;
 use part_layout::imports::skip_params;
 use reader::Step;
 use reader::skip_records;
+use sheet_reader::Taken;
+use sheet_reader::next_word;
 use type_layout::skip_values;
 
 // Call shapes: each a list of kinds and names.
@@ -40,12 +42,10 @@ fn skip_switch(sheet: &[u8], n: usize, at: usize) -> Step
     ensures { λ r. ⌜ r ≡ stepOf (switchOf (firstWords (now (sheet .entry)) n) at) ⌝ }
 {
     match skip_records(sheet, n, at, 1) {
-        Step::Next(p) => {
-            if p < n {
-                return Step::Next(p + 1);
-            }
-            Step::Broken
-        }
+        Step::Next(p) => match next_word(sheet, n, p) {
+            Taken::Word(_, next) => Step::Next(next),
+            Taken::Broken => Step::Broken,
+        },
         Step::Broken => Step::Broken,
     }
 }
@@ -169,22 +169,19 @@ pub fn skip_function(sheet: &[u8], n: usize, at: usize) -> Step
 pub fn skip_functions(sheet: &[u8], n: usize, at: usize) -> Step
     ensures { λ r. ⌜ r ≡ stepOf (listOf functionOf (firstWords (now (sheet .entry)) n) at) ⌝ }
 {
-    if at < n {
-        let mut left = word(sheet, at);
-        let mut p = at + 1;
-        while 0 < left {
-            match skip_function(sheet, n, p) {
-                Step::Next(q) => {
-                    p = q;
-                }
-                Step::Broken => {
-                    return Step::Broken;
-                }
+    let Taken::Word(mut left, mut p) = next_word(sheet, n, at) else {
+        return Step::Broken;
+    };
+    while 0 < left {
+        match skip_function(sheet, n, p) {
+            Step::Next(q) => {
+                p = q;
             }
-            left -= 1;
+            Step::Broken => {
+                return Step::Broken;
+            }
         }
-        Step::Next(p)
-    } else {
-        Step::Broken
+        left -= 1;
     }
+    Step::Next(p)
 }

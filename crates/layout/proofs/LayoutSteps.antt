@@ -20,7 +20,11 @@ use Rattle.reader.specs.declared.Step.the-variants as step
 use Rattle.reader.specs.Reader.{Got, broken, got, andThen, word, listOf, whole, content}
 use Rattle.reader.specs.Text.{string}
 use Rattle.reader.specs.Step.{stepOf}
-use Rattle.reader.specs.StepLaws.{word-read, word-none}
+use Rattle.sheet_reader.specs.declared.Taken.{Taken}
+use Rattle.sheet_reader.specs.declared.Taken.the-variants.{Word}
+use Rattle.sheet_reader.specs.declared.Taken.the-variants as taken
+use Rattle.sheet_reader.specs.Taken.{takenOf}
+use Rattle.sheet_reader.specs.TakenLaws.{word-taken, none-taken}
 use Rattle.sheet.specs.Decode.{typeDef, constOf, importOf, globalOf, functionOf, hookOf, exportOf}
 use Rattle.layout.specs.declared.Layout.{Layout}
 use Rattle.layout.specs.declared.Checked.{Checked}
@@ -109,40 +113,37 @@ module _ (n : ℕ) (ws : List ℕ) (p₁ p₂ p₃ : ℕ) where
 
 -- ── hooks, start, exports ──
 
-module _ (n : ℕ) (bytes : List ℕ) (p₁ p₂ p₃ p₄ p₅ p₆ : ℕ) where
-  pub hooks-stop : {r : Step} → r ≡ step.Broken → r ≡ stepOf (listOf hookOf (firstWords bytes n) p₆) → Broken ≡ lastParts n (firstWords bytes n) p₁ p₂ p₃ p₄ p₅ p₆
+module _ (n : ℕ) (ws : List ℕ) (p₁ p₂ p₃ p₄ p₅ p₆ : ℕ) where
+  pub hooks-stop : {r : Step} → r ≡ step.Broken → r ≡ stepOf (listOf hookOf ws p₆) → Broken ≡ lastParts n ws p₁ p₂ p₃ p₄ p₅ p₆
   unfolding lastParts
   hooks-stop a b = sym (on-stop _ a b)
 
-  module _ (p₇ : ℕ) {r₁ : Step} (a₁ : r₁ ≡ Next p₇) (b₁ : r₁ ≡ stepOf (listOf hookOf (firstWords bytes n) p₆)) where
-    pub start-stop : n ≤ p₇ → Broken ≡ lastParts n (firstWords bytes n) p₁ p₂ p₃ p₄ p₅ p₆
-    unfolding lastParts
-    start-stop h = sym (on-next p₇ _ a₁ b₁ ∙ on-stop _ refl (start-past h))
-      where
-        start-past : n ≤ p₇ → step.Broken ≡ stepOf (word (firstWords bytes n) p₇)
-        start-past h = unfold stepOf in rw (word-none bytes n p₇ h)
+  module _ (p₇ : ℕ) {r₁ : Step} (a₁ : r₁ ≡ Next p₇) (b₁ : r₁ ≡ stepOf (listOf hookOf ws p₆)) {t : Taken} where
+    pub start-stop : t ≡ taken.Broken → t ≡ takenOf (word ws p₇) → Broken ≡ lastParts n ws p₁ p₂ p₃ p₄ p₅ p₆
+    unfolding lastParts stepOf
+    start-stop a b = sym (on-next p₇ _ a₁ b₁ ∙ on-stop _ refl (sym (ap stepOf (none-taken (word ws p₇) a b))))
 
-    module _ (h : p₇ < n) where
-      start-here : Next (p₇ + 1) ≡ stepOf (word (firstWords bytes n) p₇)
+    module _ (w p₈ : ℕ) (a₂ : t ≡ Word w p₈) (b₂ : t ≡ takenOf (word ws p₇)) where
+      start-here : Next p₈ ≡ stepOf (word ws p₇)
       unfolding stepOf
-      start-here = rw (word-read bytes n p₇ h refl)
+      start-here = sym (ap stepOf (word-taken (word ws p₇) a₂ b₂))
 
-      pub exports-stop : {r : Step} → r ≡ step.Broken → r ≡ stepOf (listOf exportOf (firstWords bytes n) (p₇ + 1)) → Broken ≡ lastParts n (firstWords bytes n) p₁ p₂ p₃ p₄ p₅ p₆
+      pub exports-stop : {r : Step} → r ≡ step.Broken → r ≡ stepOf (listOf exportOf ws p₈) → Broken ≡ lastParts n ws p₁ p₂ p₃ p₄ p₅ p₆
       unfolding lastParts
-      exports-stop a b = sym (on-next p₇ _ a₁ b₁ ∙ on-next (p₇ + 1) _ refl start-here ∙ on-stop _ a b)
+      exports-stop a b = sym (on-next p₇ _ a₁ b₁ ∙ on-next p₈ _ refl start-here ∙ on-stop _ a b)
 
-      module _ (p₉ : ℕ) {r₂ : Step} (a₂ : r₂ ≡ Next p₉) (b₂ : r₂ ≡ stepOf (listOf exportOf (firstWords bytes n) (p₇ + 1))) where
-        at-end : lastParts n (firstWords bytes n) p₁ p₂ p₃ p₄ p₅ p₆ ≡ ended n (laid n p₁ p₂ p₃ p₄ p₅ p₆ p₇ (p₇ + 1)) p₉
+      module _ (p₉ : ℕ) {r₂ : Step} (a₃ : r₂ ≡ Next p₉) (b₃ : r₂ ≡ stepOf (listOf exportOf ws p₈)) where
+        at-end : lastParts n ws p₁ p₂ p₃ p₄ p₅ p₆ ≡ ended n (laid n p₁ p₂ p₃ p₄ p₅ p₆ p₇ p₈) p₉
         unfolding lastParts
-        at-end = on-next p₇ _ a₁ b₁ ∙ on-next (p₇ + 1) _ refl start-here ∙ on-next p₉ _ a₂ b₂
+        at-end = on-next p₇ _ a₁ b₁ ∙ on-next p₈ _ refl start-here ∙ on-next p₉ _ a₃ b₃
 
-        pub ends-whole : p₉ ≡ n → Intact (laid n p₁ p₂ p₃ p₄ p₅ p₆ p₇ (p₇ + 1)) ≡ lastParts n (firstWords bytes n) p₁ p₂ p₃ p₄ p₅ p₆
+        pub ends-whole : p₉ ≡ n → Intact (laid n p₁ p₂ p₃ p₄ p₅ p₆ p₇ p₈) ≡ lastParts n ws p₁ p₂ p₃ p₄ p₅ p₆
         unfolding ended
-        ends-whole e = sym (at-end ∙ ap (λ (b : Bool). cond b (Intact (laid n p₁ p₂ p₃ p₄ p₅ p₆ p₇ (p₇ + 1))) Broken) (eq-eqb p₉ n e))
+        ends-whole e = sym (at-end ∙ ap (λ (b : Bool). cond b (Intact (laid n p₁ p₂ p₃ p₄ p₅ p₆ p₇ p₈)) Broken) (eq-eqb p₉ n e))
 
-        pub ends-elsewhere : (p₉ ≡ n → ⊥) → Broken ≡ lastParts n (firstWords bytes n) p₁ p₂ p₃ p₄ p₅ p₆
+        pub ends-elsewhere : (p₉ ≡ n → ⊥) → Broken ≡ lastParts n ws p₁ p₂ p₃ p₄ p₅ p₆
         unfolding ended
-        ends-elsewhere e = sym (at-end ∙ ap (λ (b : Bool). cond b (Intact (laid n p₁ p₂ p₃ p₄ p₅ p₆ p₇ (p₇ + 1))) Broken) (ne-eqb p₉ n e))
+        ends-elsewhere e = sym (at-end ∙ ap (λ (b : Bool). cond b (Intact (laid n p₁ p₂ p₃ p₄ p₅ p₆ p₇ p₈)) Broken) (ne-eqb p₉ n e))
 
 -- ── the bytes ──
 

@@ -7,7 +7,6 @@ ghost use Rattle.reader.specs.Step.{stepOf};
 ghost use Rattle.layout.specs.Parts.{firstParts, middleParts, lastParts};
 use crate::Checked;
 use crate::Layout;
-use blocks::word;
 use func_layout::skip_functions;
 use part_layout::consts::skip_consts;
 use part_layout::imports::skip_globals;
@@ -16,29 +15,28 @@ use part_layout::tail::skip_exports;
 use part_layout::tail::skip_hooks;
 use reader::Step;
 use reader::skip_string;
+use sheet_reader::Taken;
+use sheet_reader::next_word;
 use type_layout::skip_types;
 
 pub fn skip_strings(sheet: &[u8], n: usize, at: usize) -> Step
     ensures { λ r. ⌜ r ≡ stepOf (listOf string (firstWords (now (sheet .entry)) n) at) ⌝ }
 {
-    if at < n {
-        let mut left = word(sheet, at);
-        let mut p = at + 1;
-        while 0 < left {
-            match skip_string(sheet, n, p) {
-                Step::Next(q) => {
-                    p = q;
-                }
-                Step::Broken => {
-                    return Step::Broken;
-                }
+    let Taken::Word(mut left, mut p) = next_word(sheet, n, at) else {
+        return Step::Broken;
+    };
+    while 0 < left {
+        match skip_string(sheet, n, p) {
+            Step::Next(q) => {
+                p = q;
             }
-            left -= 1;
+            Step::Broken => {
+                return Step::Broken;
+            }
         }
-        Step::Next(p)
-    } else {
-        Step::Broken
+        left -= 1;
     }
+    Step::Next(p)
 }
 
 // Hooks, start and exports; the exports end at n.
@@ -57,10 +55,9 @@ fn check_last(
     let Step::Next(start) = skip_hooks(sheet, n, hooks) else {
         return Checked::Broken;
     };
-    if n <= start {
+    let Taken::Word(_, exports) = next_word(sheet, n, start) else {
         return Checked::Broken;
-    }
-    let exports = start + 1;
+    };
     let Step::Next(end) = skip_exports(sheet, n, exports) else {
         return Checked::Broken;
     };

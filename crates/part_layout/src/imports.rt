@@ -7,6 +7,8 @@ ghost use Rattle.sheet.specs.Decode.{paramList, importOf, globalOf};
 use blocks::word;
 use reader::Step;
 use reader::skip_records;
+use sheet_reader::Taken;
+use sheet_reader::next_word;
 use type_layout::skip_value;
 
 // 0, or 1 and a list of flags and names.
@@ -40,24 +42,21 @@ pub fn skip_import(sheet: &[u8], n: usize, at: usize) -> Step
 pub fn skip_imports(sheet: &[u8], n: usize, at: usize) -> Step
     ensures { λ r. ⌜ r ≡ stepOf (listOf importOf (firstWords (now (sheet .entry)) n) at) ⌝ }
 {
-    if at < n {
-        let mut left = word(sheet, at);
-        let mut p = at + 1;
-        while 0 < left {
-            match skip_import(sheet, n, p) {
-                Step::Next(q) => {
-                    p = q;
-                }
-                Step::Broken => {
-                    return Step::Broken;
-                }
+    let Taken::Word(mut left, mut p) = next_word(sheet, n, at) else {
+        return Step::Broken;
+    };
+    while 0 < left {
+        match skip_import(sheet, n, p) {
+            Step::Next(q) => {
+                p = q;
             }
-            left -= 1;
+            Step::Broken => {
+                return Step::Broken;
+            }
         }
-        Step::Next(p)
-    } else {
-        Step::Broken
+        left -= 1;
     }
+    Step::Next(p)
 }
 
 // A value type, then a constant + 1.
@@ -78,22 +77,19 @@ fn skip_global(sheet: &[u8], n: usize, at: usize) -> Step
 pub fn skip_globals(sheet: &[u8], n: usize, at: usize) -> Step
     ensures { λ r. ⌜ r ≡ stepOf (listOf globalOf (firstWords (now (sheet .entry)) n) at) ⌝ }
 {
-    if at < n {
-        let mut left = word(sheet, at);
-        let mut p = at + 1;
-        while 0 < left {
-            match skip_global(sheet, n, p) {
-                Step::Next(q) => {
-                    p = q;
-                }
-                Step::Broken => {
-                    return Step::Broken;
-                }
+    let Taken::Word(mut left, mut p) = next_word(sheet, n, at) else {
+        return Step::Broken;
+    };
+    while 0 < left {
+        match skip_global(sheet, n, p) {
+            Step::Next(q) => {
+                p = q;
             }
-            left -= 1;
+            Step::Broken => {
+                return Step::Broken;
+            }
         }
-        Step::Next(p)
-    } else {
-        Step::Broken
+        left -= 1;
     }
+    Step::Next(p)
 }

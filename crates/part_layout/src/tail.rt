@@ -6,6 +6,8 @@ ghost use Rattle.reader.specs.Step.{stepOf};
 ghost use Rattle.sheet.specs.Decode.{hookOf, exportOf};
 use blocks::word;
 use reader::Step;
+use sheet_reader::Taken;
+use sheet_reader::next_word;
 
 // A hook, 0 function or 1 import, an index.
 fn skip_hook(sheet: &[u8], n: usize, at: usize) -> Step
@@ -28,24 +30,21 @@ fn skip_hook(sheet: &[u8], n: usize, at: usize) -> Step
 pub fn skip_hooks(sheet: &[u8], n: usize, at: usize) -> Step
     ensures { λ r. ⌜ r ≡ stepOf (listOf hookOf (firstWords (now (sheet .entry)) n) at) ⌝ }
 {
-    if at < n {
-        let mut left = word(sheet, at);
-        let mut p = at + 1;
-        while 0 < left {
-            match skip_hook(sheet, n, p) {
-                Step::Next(q) => {
-                    p = q;
-                }
-                Step::Broken => {
-                    return Step::Broken;
-                }
+    let Taken::Word(mut left, mut p) = next_word(sheet, n, at) else {
+        return Step::Broken;
+    };
+    while 0 < left {
+        match skip_hook(sheet, n, p) {
+            Step::Next(q) => {
+                p = q;
             }
-            left -= 1;
+            Step::Broken => {
+                return Step::Broken;
+            }
         }
-        Step::Next(p)
-    } else {
-        Step::Broken
+        left -= 1;
     }
+    Step::Next(p)
 }
 
 // 0 function, 1 global or 2 type; a name, an index.
@@ -66,22 +65,19 @@ fn skip_export(sheet: &[u8], n: usize, at: usize) -> Step
 pub fn skip_exports(sheet: &[u8], n: usize, at: usize) -> Step
     ensures { λ r. ⌜ r ≡ stepOf (listOf exportOf (firstWords (now (sheet .entry)) n) at) ⌝ }
 {
-    if at < n {
-        let mut left = word(sheet, at);
-        let mut p = at + 1;
-        while 0 < left {
-            match skip_export(sheet, n, p) {
-                Step::Next(q) => {
-                    p = q;
-                }
-                Step::Broken => {
-                    return Step::Broken;
-                }
+    let Taken::Word(mut left, mut p) = next_word(sheet, n, at) else {
+        return Step::Broken;
+    };
+    while 0 < left {
+        match skip_export(sheet, n, p) {
+            Step::Next(q) => {
+                p = q;
             }
-            left -= 1;
+            Step::Broken => {
+                return Step::Broken;
+            }
         }
-        Step::Next(p)
-    } else {
-        Step::Broken
+        left -= 1;
     }
+    Step::Next(p)
 }

@@ -8,6 +8,8 @@ ghost use Rattle.sheet.specs.Decode.{valueType, fieldOf, funcType, structType, 
 use blocks::word;
 use reader::Step;
 use reader::skip_records;
+use sheet_reader::Taken;
+use sheet_reader::next_word;
 
 // A value type; 13 to 15 are unlisted.
 pub fn skip_value(sheet: &[u8], n: usize, at: usize) -> Step
@@ -145,22 +147,19 @@ pub fn skip_type(sheet: &[u8], n: usize, at: usize) -> Step
 pub fn skip_types(sheet: &[u8], n: usize, at: usize) -> Step
     ensures { λ r. ⌜ r ≡ stepOf (listOf typeDef (firstWords (now (sheet .entry)) n) at) ⌝ }
 {
-    if at < n {
-        let mut left = word(sheet, at);
-        let mut p = at + 1;
-        while 0 < left {
-            match skip_type(sheet, n, p) {
-                Step::Next(q) => {
-                    p = q;
-                }
-                Step::Broken => {
-                    return Step::Broken;
-                }
+    let Taken::Word(mut left, mut p) = next_word(sheet, n, at) else {
+        return Step::Broken;
+    };
+    while 0 < left {
+        match skip_type(sheet, n, p) {
+            Step::Next(q) => {
+                p = q;
             }
-            left -= 1;
+            Step::Broken => {
+                return Step::Broken;
+            }
         }
-        Step::Next(p)
-    } else {
-        Step::Broken
+        left -= 1;
     }
+    Step::Next(p)
 }

@@ -1,6 +1,5 @@
--- `layout::funcs/skip_switch` meets its contract.
+-- `func_layout::skip_switch` meets its contract.
 use borrow.Author.Needs.{needs}
-use native.Mathlib.Omega.{arith}
 use Rattle.func_layout.proofs.FuncSteps.{switch-next, switch-short, switch-stop}
 use Rattle.func_layout.proofs.skip_switch.Statement.{statement}
 use Rattle.func_layout.proofs.skip_switch.Tie as tie
@@ -11,14 +10,20 @@ skip-records-requires c κs = search needs
 enum-known-p : tie.Need-enum-known-p
 enum-known-p c = search needs
 
-add-t8 : tie.Need-add-t8
-add-t8 c = search needs
+next-word-requires : tie.Need-next-word-requires
+next-word-requires c κs = search needs
 
-returns : tie.Need-returns
-returns c = search (needs, switch-next, switch-short, switch-stop)
+enum-known-next : tie.Need-enum-known-next
+enum-known-next c = search needs
 
 enum-told : tie.Need-enum-told
 enum-told c = search needs
+
+enum-told-2 : tie.Need-enum-told-2
+enum-told-2 c = search needs
+
+returns : tie.Need-returns
+returns c = search (needs, switch-next, switch-short, switch-stop)
 
 returns-2 : tie.Need-returns-2
 returns-2 c = search (needs, switch-next, switch-short, switch-stop)
@@ -29,4 +34,13 @@ returns-3 c = search (needs, switch-next, switch-short, switch-stop)
 pub skip-switch-spec : {M : Type 1} → statement M
 skip-switch-spec =
     tie.close
-    (tie.spec skip-records-requires enum-known-p add-t8 returns enum-told returns-2 returns-3)
+    (tie.spec
+    skip-records-requires
+    enum-known-p
+    next-word-requires
+    enum-known-next
+    enum-told
+    enum-told-2
+    returns
+    returns-2
+    returns-3)

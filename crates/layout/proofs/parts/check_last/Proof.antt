@@ -1,6 +1,5 @@
 -- `layout::parts/check_last` meets its contract.
 use borrow.Author.Needs.{needs}
-use native.Mathlib.Omega.{arith}
 use Rattle.layout.proofs.LayoutSteps.{hooks-stop, start-stop, exports-stop, ends-whole, ends-elsewhere}
 use Rattle.layout.proofs.parts.check_last.Statement.{statement}
 use Rattle.layout.proofs.parts.check_last.Tie as tie
@@ -17,11 +16,17 @@ enum-told c = search needs
 returns : tie.Need-returns
 returns c = search (needs, hooks-stop, start-stop, exports-stop, ends-whole, ends-elsewhere)
 
+next-word-requires : tie.Need-next-word-requires
+next-word-requires c κs = search needs
+
+enum-known-exports : tie.Need-enum-known-exports
+enum-known-exports c = search needs
+
+enum-told-2 : tie.Need-enum-told-2
+enum-told-2 c = search needs
+
 returns-2 : tie.Need-returns-2
 returns-2 c = search (needs, hooks-stop, start-stop, exports-stop, ends-whole, ends-elsewhere)
-
-add-exports : tie.Need-add-exports
-add-exports c = search needs
 
 skip-exports-requires : tie.Need-skip-exports-requires
 skip-exports-requires c κs = search needs
@@ -29,8 +34,8 @@ skip-exports-requires c κs = search needs
 enum-known-end : tie.Need-enum-known-end
 enum-known-end c = search needs
 
-enum-told-2 : tie.Need-enum-told-2
-enum-told-2 c = search needs
+enum-told-3 : tie.Need-enum-told-3
+enum-told-3 c = search needs
 
 returns-3 : tie.Need-returns-3
 returns-3 c = search (needs, hooks-stop, start-stop, exports-stop, ends-whole, ends-elsewhere)
@@ -49,11 +54,13 @@ check-last-spec =
     enum-known-start
     enum-told
     returns
+    next-word-requires
+    enum-known-exports
+    enum-told-2
     returns-2
-    add-exports
     skip-exports-requires
     enum-known-end
-    enum-told-2
+    enum-told-3
     returns-3
     returns-4
     returns-5)
