@@ -5,12 +5,13 @@ from .module import Struct
 
 # a hyphen stands only between two other characters, so that an arrow after a label is one
 LETTER = 'A-Za-z_\u00c0-\u00d6\u00d8-\u00f6\u00f8-\u024f'
+LONGEST = 60
 LABEL = re.compile(f'[{LETTER}](?:[{LETTER}0-9]|-(?=[{LETTER}0-9]))*')
 
 # the first name of each, none where another has it too or where it could be a letter and a number
 def chosen(letter, names):
     counts = Counter(name for name in names if name is not None)
-    fits = lambda name: name is not None and counts[name] == 1 and LABEL.fullmatch(name) and not re.fullmatch(letter + '[0-9]+', name)
+    fits = lambda name: name is not None and counts[name] == 1 and len(name) <= LONGEST and LABEL.fullmatch(name) and not re.fullmatch(letter + '[0-9]+', name)
     return [name if fits(name) else f'{letter}{k}' for k, name in enumerate(names)]
 
 class Labels:
