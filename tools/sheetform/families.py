@@ -3,7 +3,8 @@ from .labels import Labels
 from .module import Struct
 from .show import quoted
 
-CHAIN = 256
+# of a struct's own fields and of a name so many are shown
+CHAIN, FIELDS, LONGEST = 256, 24, 60
 
 class Families:
     def __init__(self, module):
@@ -39,7 +40,8 @@ class Families:
         text = self.text(number)
         if text is None:
             return f'string {number}'
-        return text if text.isprintable() and text.strip() == text and text and ',' not in text else quoted(text)
+        cut = text[:LONGEST] + ('…' if len(text) > LONGEST else '')
+        return cut if cut.isprintable() and cut.strip() == cut and cut and ',' not in cut else quoted(cut)
 
     def name(self, t):
         text = self.text(self.types[t].name)
@@ -103,6 +105,7 @@ def counted(families, t):
 # own fields, or that there is none; in brackets what is wrong
 def line(families, t):
     own = families.own(t)
+    own[FIELDS:] = [f'and {len(own) - FIELDS} more'] if len(own) > FIELDS else []
     sign = '+ ' if families.types[t].parent and own else ''
     parts = [f'{families.name(t)} (type {t}, {counted(families, t)})']
     parts += [f'{sign}{", ".join(own)}'] if own else []

@@ -1,20 +1,20 @@
 """Arguments, files in and files out."""
-import os, sys, tempfile
+import os, tempfile
 from types import SimpleNamespace
 from .lexer import Wrong
 
 # a byte more than 4,096 blocks shows that there are more; a text of such a sheet can be longer
-MOST, MOST_TEXT = 4096 * 512 + 1, 1 << 28
+MOST, MOST_TEXT = 4096 * 512 + 1, 1 << 27
 USAGE = dict(write='write TEXT [-o FILE]', show='show [--hosts] FILE [-o TEXT]', table='table SHEET [HOSTS]', families='families SHEET [--svg FILE | --dot FILE]')
 OPTIONS = dict(write=['-o'], show=['-o', '--hosts'], table=[], families=['--svg', '--dot'])
 
 class Failed(Exception):
-    """A file that cannot be read or written, and why."""
+    """What cannot be tried, and why."""
 
-# what is asked for, or what is wrong with the arguments
+# what is asked for
 def arguments(given):
     if not given or given[0] not in USAGE:
-        return 'usage: tools/sheet write|show|table|families ...; tools/sheet --help says more'
+        raise Failed('usage: tools/sheet write|show|table|families ...; tools/sheet --help says more')
     command, rest = given[0], given[1:]
     usage = f'usage: tools/sheet {USAGE[command]}'
     out, names = SimpleNamespace(command=command, o=None, hosts=False, svg=None, dot=None, under=None), []
@@ -23,12 +23,12 @@ def arguments(given):
         if not first.startswith('-') or first == '-':
             names.append(first)
         elif first not in OPTIONS[command] or getattr(out, first.lstrip('-')) or (first != '--hosts' and not rest):
-            return usage
+            raise Failed(usage)
         else:
             setattr(out, first.lstrip('-'), True if first == '--hosts' else rest.pop(0))
     most = 2 if command == 'table' else 1
     if not 1 <= len(names) <= most or (out.svg and out.dot) or names == ['-', '-']:
-        return usage
+        raise Failed(usage)
     out.file, out.under = names[0], names[1] if len(names) == 2 else None
     return out
 
@@ -37,9 +37,7 @@ def name_of(path):
 
 def read_bytes(path, most=MOST):
     try:
-        if path == '-':
-            return sys.stdin.buffer.read(most)
-        with open(path, 'rb') as f:
+        with open(0 if path == '-' else path, 'rb', closefd=path != '-') as f:
             return f.read(most)
     except (OSError, ValueError) as e:
         raise Failed(f'{name_of(path)}: {getattr(e, "strerror", None) or e}') from None
@@ -59,17 +57,15 @@ def read_text(path):
 def deliver(path, data):
     try:
         if path in (None, '-'):
-            sys.stdout.buffer.write(data)
-            sys.stdout.flush()
+            with open(1, 'wb', closefd=False) as f:
+                f.write(data)
         elif os.path.exists(path) and not os.path.isfile(path):
             with open(path, 'wb') as f:
                 f.write(data)
         else:
             replace(os.path.realpath(path), data)
-    except BrokenPipeError:
-        raise
     except (OSError, ValueError) as e:
-        raise Failed(f'{path or "standard output"}: {getattr(e, "strerror", None) or e}') from None
+        raise Failed(f'{"standard output" if path in (None, "-") else path}: {getattr(e, "strerror", None) or e}') from None
 
 def replace(path, data):
     handle, made = tempfile.mkstemp(dir=os.path.dirname(path), prefix='.sheet-')

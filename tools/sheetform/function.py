@@ -2,6 +2,7 @@
 import re
 from .blocks import TOP
 from .codes import CODES, MODIFIERS, OPS, SHAPES, WIDTHS, instruction, unread
+from .labels import firsts
 from .lexer import meant
 from .module import Function
 
@@ -40,6 +41,7 @@ class Body:
             word = line.next().text
             getattr(self, 'read_' + word.replace('-', '_'))(line)
             line.finish()
+        self.firsts = {'name': firsts(self.function.names), 'type ref': firsts(self.function.type_refs)}
         for line in self.code:
             self.function.code.append(self.instruction(line, CODES[line.next().text]))
             line.finish()
@@ -107,25 +109,24 @@ class Body:
         return line.count(f'a {kind} such as {prefix}0', most)
 
     # a member of the function's names or type refs: the first that is it, put behind them if none is
-    def listed(self, line, members, read, most):
-        if line.peek().kind == 'number':
-            return line.count('', most)
+    def listed(self, line, kind, most):
         found = line.peek()
-        number = read(line)
-        if number not in members:
+        if found.kind == 'number':
+            return line.count('', most)
+        members = self.function.names if kind == 'name' else self.function.type_refs
+        number = self.names.string(line) if kind == 'name' else self.names.refer('type', line)
+        firsts = self.firsts[kind]
+        if number not in firsts:
+            firsts[number] = len(members)
             members.append(number)
-        return line.within(found, members.index(number), most)
+        return line.within(found, firsts[number], most)
 
     def operand(self, line, kind, most):
         if kind in ('register', 'table', 'capture', 'shape'):
             return self.prefixed(line, kind, most)
         if kind == 'target':
             return self.target(line, most)
-        if kind == 'name':
-            return self.listed(line, self.function.names, self.names.string, most)
-        if kind == 'type ref':
-            return self.listed(line, self.function.type_refs, lambda line: self.names.refer('type', line), most)
-        return self.names.refer(kind, line, most)
+        return self.listed(line, kind, most) if kind in self.firsts else self.names.refer(kind, line, most)
 
     def instruction(self, line, code):
         op = OPS[code]

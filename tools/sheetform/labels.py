@@ -8,6 +8,13 @@ LETTER = 'A-Za-z_\u00c0-\u00d6\u00d8-\u00f6\u00f8-\u024f'
 LONGEST = 60
 LABEL = re.compile(f'[{LETTER}](?:[{LETTER}0-9]|-(?=[{LETTER}0-9]))*')
 
+# the first place of each member
+def firsts(members):
+    out = {}
+    for place, member in enumerate(members):
+        out.setdefault(member, place)
+    return out
+
 # the first name of each, none where another has it too or where it could be a letter and a number
 def chosen(letter, names):
     counts = Counter(name for name in names if name is not None)

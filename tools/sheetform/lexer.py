@@ -79,7 +79,7 @@ class Line:
     """The tokens of a line, and the next of them."""
     def __init__(self, number, source):
         self.number, self.tokens, self.at = number, tokens(number, source), 0
-        self.last = Token('end', '', None, len(source.rstrip()) + 1)
+        self.last = Token('end', '', None, self.tokens[-1].column + len(self.tokens[-1].text) if self.tokens else 1)
 
     def peek(self, ahead=0):
         return self.tokens[self.at + ahead] if self.at + ahead < len(self.tokens) else self.last

@@ -1,9 +1,9 @@
 """A sheet or a host list as text; `parse` of it gives the same sheet."""
 from .codes import CALLEES, EXPORTS, FLAGS, HOOKS, HOST_KINDS, MODIFIERS, OPS, REF, SHAPES, VALUE_TYPES, slots, unread
-from .labels import Labels
+from .labels import Labels, firsts
 from .module import Array, Cell, Func, Hosts, Items, Iter, Map, Plain, Struct, Text
 
-WIDTH = 110
+WIDTH, LONGEST = 110, 120
 ESCAPES = {'"': '\\"', '\\': '\\\\', '\n': '\\n', '\r': '\\r', '\t': '\\t', '\b': '\\b', '\f': '\\f'}
 
 # beyond the basic plane \u takes two halves
@@ -30,17 +30,18 @@ class Printer:
     def __init__(self, module):
         self.module, self.lines = module, []
         self.labels = Labels(module).of
-        # the first string with each text, and which were written as text so far, in that order
-        self.first, self.used = {}, {}
-        for number, text in enumerate(module.strings):
-            self.first.setdefault(text, number)
+        # the texts that stand for a string: of equal ones the first, and none so long that using it often would fill the text
+        first = firsts(module.strings)
+        texts = [quoted(text) if first[text] == number else '' for number, text in enumerate(module.strings)]
+        self.texts = [text if len(text) <= LONGEST else '' for text in texts]
+        # which were written as text so far, in that order
+        self.used = {}
 
     def string(self, number):
-        strings = self.module.strings
-        if number >= len(strings) or self.first[strings[number]] != number:
+        if number >= len(self.texts) or not self.texts[number]:
             return str(number)
         self.used.setdefault(number)
-        return quoted(strings[number])
+        return self.texts[number]
 
     def value(self, word):
         return VALUE_TYPES[word] if word < len(VALUE_TYPES) else f'ref {self.labels("type", word - REF)}'
@@ -140,10 +141,7 @@ class Code:
     def __init__(self, printer, function):
         self.printer, self.function, self.marked = printer, function, set()
         # the first place of each member, since a member written by its name stands for that
-        self.firsts = {kind: {} for kind in ('name', 'type ref')}
-        for kind, members in (('name', function.names), ('type ref', function.type_refs)):
-            for place, number in enumerate(members):
-                self.firsts[kind].setdefault(number, place)
+        self.firsts = {'name': firsts(function.names), 'type ref': firsts(function.type_refs)}
 
     def target(self, position):
         if position > len(self.function.code):

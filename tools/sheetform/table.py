@@ -2,9 +2,10 @@
 from collections import namedtuple
 from .blocks import TOP, Broken
 from .codes import HOOKS, REF, VALUE_TYPES
+from .families import plural
 from .labels import Labels
-from .module import Array, Cell, Coroutine, Iter, Many, Map, OneOf, Optional, Reader, Record, Word, pair
-from .show import quoted
+from .module import Array, Cell, Coroutine, Func, Iter, Many, Map, OneOf, Optional, Reader, Record, Word, pair
+from .show import LONGEST, quoted
 
 LinkedFunction = namedtuple('LinkedFunction', 'sig registers_count params_count registers result references captures names type_refs catches')
 LinkedFunc = namedtuple('LinkedFunc', '')
@@ -67,7 +68,16 @@ class Describer:
         return f'{kind} {number}' if label == str(number) else f'{label} ({number})'
 
     def string(self, number):
-        return quoted(self.module.strings[number]) if number < len(self.module.strings) else f'string {number}'
+        text = self.module.strings[number] if number < len(self.module.strings) else None
+        return f'string {number}' if text is None or len(text) > LONGEST else quoted(text)
+
+    # a func type in words, as the sheet declares it
+    def signature(self, number):
+        declared = self.module.types[number] if number < len(self.module.types) else None
+        if not isinstance(declared, Func):
+            return f'type {number}'
+        results = f' -> {", ".join(map(self.value, declared.results))}' if declared.results else ''
+        return f'func({", ".join(map(self.value, declared.params))}){results} ({number})'
 
     def value(self, word):
         if word < len(VALUE_TYPES):
@@ -83,9 +93,9 @@ class Describer:
         return self.row(name, map(self.value, members))
 
     def function(self, k, f):
-        counts = f'{f.registers_count} registers, {f.params_count} of them parameters'
+        counts = f'{plural(f.registers_count, "register")}, {plural(f.params_count, "parameter")}'
         result = self.value(f.result - 1) if f.result else 'none'
-        out = [f'  {self.numbered("function", k)}: signature {self.numbered("type", f.sig)}, {counts}, result {result}']
+        out = [f'  {self.numbered("function", k)}: {self.signature(f.sig)}, {counts}, result {result}']
         out += self.values('registers', f.registers) + self.row('references', (f'r{r}' for r in f.references)) + self.values('captures', f.captures)
         out += self.row('names', map(self.string, f.names)) + self.row('type refs', (self.numbered('type', t) for t in f.type_refs))
         return out + (self.row('catch table', ranges(f.catches) or ['empty']) if f.catches is not None else [])
@@ -94,17 +104,18 @@ class Describer:
         head = f'  {self.numbered("type", k)}:'
         if isinstance(t, LinkedStruct):
             parent = f' of {self.numbered("type", t.parent - 1)}' if t.parent else ''
-            out = [f'{head} struct{parent}, {len(t.fields)} fields'] + self.values('fields', t.fields)
+            out = [f'{head} struct{parent}, {plural(len(t.fields), "field")}'] + self.values('fields', t.fields)
             out += self.row('references', (f'slot {slot}' for slot in t.references))
             out += self.row('field names', (f'{self.string(name)} slot {slot}' for name, slot in t.field_names))
             return out + self.row('methods', (f'{self.string(name)} {self.numbered("function", f)}' for name, f in t.methods))
-        kind = 'func' if isinstance(t, LinkedFunc) else type(t).__name__.lower()
-        return [f'{head} {kind} {" -> ".join(map(self.value, t))}'.rstrip()]
+        if isinstance(t, LinkedFunc):
+            return [f'{head} func']
+        return [f'{head} {type(t).__name__.lower()} {" -> ".join(map(self.value, t))}'.rstrip()]
 
     def import_(self, k, i):
         host = self.hosts.hosts[i.place] if i.place < len(self.hosts.hosts) else None
         said = f': {quoted(host.module)} {quoted(host.name)}{", the scheduler" if host.kind else ""}' if host else ''
-        return f'  {self.numbered("import", k)}: signature {self.numbered("type", i.sig)}, host function {i.place}{said}'
+        return f'  {self.numbered("import", k)}: {self.signature(i.sig)}, host function {i.place}{said}'
 
     def hook(self, k, word):
         kind, number = ('function', word // 2) if word % 2 else ('import', word // 2 - 1)
