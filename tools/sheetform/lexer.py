@@ -22,6 +22,9 @@ def meant(word, known):
     close = difflib.get_close_matches(word, list(known)[:2000], 1)
     return f"; did you mean '{close[0]}'?" if close else ''
 
+def a(kind):
+    return f'an {kind}' if kind == 'import' else f'a {kind}'
+
 def either(words):
     words = [f"'{word}'" for word in words]
     return words[0] if len(words) == 1 else f'{", ".join(words[:-1])} or {words[-1]}'

@@ -3,7 +3,7 @@ from .blocks import MOST_WORDS, TOP
 from .codes import CALLEES, EXPORTS, FLAGS, HOOKS, HOOK_COUNT, HOST_KINDS, REF, VALUE_TYPES
 from .damage import Damage
 from .function import ITEMS, read_function
-from .lexer import Line, Wrong, either, meant
+from .lexer import Line, Wrong, a, either, meant
 from .module import (Array, Cell, Coroutine, Entries, Export, Func, Global, Hook, Host, Hosts, Import, Items, Iter, Map, Module, Plain, Struct, Text,
                      body, write)
 
@@ -40,14 +40,14 @@ class Names:
         label = line.label(f'a label for the {kind}')
         labels = self.labels[kind]
         if label in labels:
-            raise line.wrong(found, f"a {kind} is called '{label}' already")
+            raise line.wrong(found, f"{a(kind)} is called '{label}' already")
         labels[label] = len(labels)
 
     def refer(self, kind, line, most=TOP):
         found = line.peek()
         if found.kind == 'number':
             return line.count('', most)
-        label = line.label(f'a {kind}')
+        label = line.label(f'{a(kind)}: its label or number')
         labels = self.labels[kind]
         if label not in labels:
             raise line.wrong(found, f"no {kind} is called '{label}'{meant(label, labels)}")
