@@ -9,6 +9,7 @@ STYLE = """
   text { font: 12px system-ui, "Segoe UI", "Helvetica Neue", Arial, sans-serif; fill: #1d2b3a }
   .name { font-size: 14px; font-weight: 600 }
   .note { fill: #4d6073 }
+  .none { fill: #7c8fa3 }
   rect { fill: #eaf1fa; stroke: #4a78ab }
   .root rect { fill: #d3e3f5; stroke-width: 2 }
   .apart rect { fill: #fbeadb; stroke: #c0722f }
@@ -97,8 +98,10 @@ class Picture:
 
     def svg(self):
         boxes = list(self.boxes.values())
-        wide = max([b.x + b.width for b in boxes], default=0) + MARGIN
-        high = max([b.y + b.height for b in boxes], default=0) + MARGIN
+        if not boxes:
+            return f'<svg xmlns="http://www.w3.org/2000/svg" width="140" height="40"><style>{STYLE}</style><text class="none" x="12" y="25">no struct types</text></svg>\n'
+        wide = max(b.x + b.width for b in boxes) + MARGIN
+        high = max(b.y + b.height for b in boxes) + MARGIN
         lines = [self.line(t) for t, depth in self.families.walk if depth]
         head = f'<svg xmlns="http://www.w3.org/2000/svg" width="{wide:.0f}" height="{high:.0f}" viewBox="0 0 {wide:.0f} {high:.0f}" role="img">'
         return '\n'.join([head, '<title>Families</title>', f'<style>{STYLE}</style>', *lines, *[b.svg() for b in boxes], '</svg>', ''])
