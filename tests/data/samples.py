@@ -1,5 +1,6 @@
 #!/usr/bin/env python3
-"""Writes samples/, which tools/check is tried on, and what the program `checker` is run on: an empty sheet and an empty host list."""
+"""Writes what the program `checker` is run on: an empty sheet and an empty host list. Samples that tools/sheet writes from their texts come out
+the same here, so that two writers that share nothing are held to one another."""
 import os
 from instructions import CODE
 from sheets import CRATES, DYN, I64, STR, fn, func, host_list, import_, inst, param_list, parts, ref, sheet, struct, text
@@ -29,11 +30,14 @@ def lifts(last=inst(CODE['ret'], 2)):
                        exports=[(FUNC_ITEM, number('call-out'), 0), (GLOBAL_ITEM, number('night surcharge'), 0)]
                        + [(TYPE_ITEM, number(name), t) for t, (name, _, _) in enumerate(families)]))
 
-FILES = {
+# written by tools/sheet
+SAME = {
     f'{SAMPLES}/hosts': host_list(HOSTS),
     f'{SAMPLES}/empty.sheet': sheet(parts()),
     f'{SAMPLES}/lifts.sheet': lifts(),
     f'{SAMPLES}/self-parent.sheet': sheet(parts(['Lift'], [struct(parent=0)])),
+}
+FILES = {
     f'{CRATES}/checker/stdin': sheet(parts()),
     f'{CRATES}/checker/data/hosts': host_list([]),
     f'{CRATES}/checker/stdout': b'0 0 49 0 0 0\n',

@@ -1,0 +1,138 @@
+"""The families of a sheet: each struct that has no parent, with all that descend from it by declared parents."""
+from .labels import Labels
+from .module import Struct
+from .show import quoted
+
+# of a struct's own fields and of a name so many are shown
+CHAIN, FIELDS, LONGEST = 256, 24, 60
+
+class Families:
+    def __init__(self, module):
+        self.module, self.types = module, module.types
+        self.labels = Labels(module).lists['type']
+        self.structs = [t for t, made in enumerate(self.types) if isinstance(made, Struct)]
+        self.children = {t: [] for t in self.structs}
+        self.roots = [t for t in self.structs if not self.types[t].parent]
+        for t in self.structs:
+            if self.parent(t) in self.children:
+                self.children[self.parent(t)].append(t)
+        # (type, depth) in the order of the numbering walk
+        self.walk = self.walked()
+        self.depth = dict(self.walk)
+
+    # the declared parent's number, which need not exist
+    def parent(self, t):
+        return self.types[t].parent - 1
+
+    def walked(self):
+        out, todo = [], [(root, 0) for root in reversed(self.roots)]
+        while todo:
+            t, depth = todo.pop()
+            out.append((t, depth))
+            todo += [(child, depth + 1) for child in reversed(self.children[t])]
+        return out
+
+    def text(self, number):
+        return self.module.strings[number] if number < len(self.module.strings) else None
+
+    # a field's name as people read it: as it is where it is one plain word or more, else as the text form has it
+    def field(self, number):
+        text = self.text(number)
+        if text is None:
+            return f'string {number}'
+        cut = text[:LONGEST] + ('…' if len(text) > LONGEST else '')
+        return cut if cut.isprintable() and cut.strip() == cut and cut and ',' not in cut else quoted(cut)
+
+    def name(self, t):
+        text = self.text(self.types[t].name)
+        return self.labels[t] if text is None or text == self.labels[t] else self.field(self.types[t].name)
+
+    # whether a type's fields begin with its parent's, as stored
+    def begins(self, t):
+        parent = self.types[self.parent(t)].fields if t in self.depth and self.types[t].parent else []
+        return self.types[t].fields[:len(parent)] == parent
+
+    # the fields that a type has beside its parent's
+    def own(self, t):
+        fields = self.types[t].fields
+        below = len(self.types[self.parent(t)].fields) if self.depth.get(t) and self.begins(t) else 0
+        return [self.field(name) for name, _ in fields[below:]]
+
+    # what the loader will refuse
+    def remark(self, t):
+        if not self.begins(t):
+            return "its fields do not begin with its parent's"
+        return f'more than {CHAIN} types on its chain' if self.depth.get(t, 0) >= CHAIN else ''
+
+    # structs outside every family, each with the reason
+    def apart(self):
+        rest = [t for t in self.structs if t not in self.depth]
+        cycle = self.on_cycle(rest)
+        return [(t, self.reason(t, cycle)) for t in rest]
+
+    def reason(self, t, cycle):
+        parent = self.parent(t)
+        if parent >= len(self.types):
+            return f'its parent, type {parent}, does not exist'
+        if parent not in self.children:
+            return f'its parent {self.labels[parent]}, type {parent}, is no struct'
+        if t in cycle:
+            return 'it is its own parent' if parent == t else f'its parents go in a circle of {cycle[t]} types'
+        return f'its parent {self.labels[parent]}, type {parent}, is in no family'
+
+    # by type, how many are on its circle of parents
+    def on_cycle(self, rest):
+        state, out = {}, {}
+        for start in rest:
+            path, t = [], start
+            while t in self.children and t not in state:
+                state[t] = start
+                path.append(t)
+                t = self.parent(t)
+            if t in self.children and state[t] == start:
+                ring = path[path.index(t):]
+                out.update(dict.fromkeys(ring, len(ring)))
+        return out
+
+def plural(count, what):
+    return f'{count} {what}' if count == 1 else f'{count} {what}s'
+
+def counted(families, t):
+    made = families.types[t]
+    methods = f', {plural(len(made.methods), "method")}' if made.methods else ''
+    return plural(len(made.fields), 'field') + methods
+
+# own fields, or that there is none; in brackets what is wrong
+def line(families, t):
+    own = families.own(t)
+    own[FIELDS:] = [f'and {len(own) - FIELDS} more'] if len(own) > FIELDS else []
+    sign = '+ ' if families.types[t].parent and own else ''
+    parts = [f'{families.name(t)} (type {t}, {counted(families, t)})']
+    parts += [f'{sign}{", ".join(own)}'] if own else []
+    remark = families.remark(t)
+    return ': '.join(parts) + (f' [{remark}]' if remark else '')
+
+# the branches before a type: of each ancestor below the root whether another child of the same parent follows
+def tree(families):
+    lines, open_ = [], []
+    last = {children[-1] for children in families.children.values() if children}
+    for t, depth in families.walk:
+        if depth == 0:
+            lines += [''] if lines else []
+            lines.append(line(families, t))
+            open_ = []
+            continue
+        # branches over the longest chain that is accepted are not drawn
+        open_ = open_[:min(depth, CHAIN) - 1]
+        before = ''.join('│  ' if follows else '   ' for follows in open_)
+        lines.append(f'{before}{"└─" if t in last else "├─"} {line(families, t)}')
+        open_.append(t not in last)
+    return lines
+
+def shown(module):
+    families = Families(module)
+    lines, apart = tree(families), families.apart()
+    if apart:
+        lines += [''] if lines else []
+        lines += ['in no family:'] + [f'  {families.name(t)} (type {t}, {counted(families, t)}): {reason}' for t, reason in apart]
+    return '\n'.join(lines or ['no struct types']) + '\n'

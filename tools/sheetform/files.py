@@ -1,0 +1,87 @@
+"""Arguments, files in and files out."""
+import os, tempfile
+from types import SimpleNamespace
+from .lexer import Wrong
+
+# a byte more than 4,096 blocks shows that there are more; a text of such a sheet can be longer
+MOST, MOST_TEXT = 4096 * 512 + 1, 1 << 27
+USAGE = dict(write='write TEXT [-o FILE]', show='show [--hosts] FILE [-o TEXT]', table='table SHEET [HOSTS]', families='families SHEET [--svg FILE | --dot FILE]')
+OPTIONS = dict(write=['-o'], show=['-o', '--hosts'], table=[], families=['--svg', '--dot'])
+
+class Failed(Exception):
+    """What cannot be tried, and why."""
+
+# what is asked for
+def arguments(given):
+    if not given or given[0] not in USAGE:
+        raise Failed('usage: tools/sheet write|show|table|families ...; tools/sheet --help says more')
+    command, rest = given[0], given[1:]
+    usage = f'usage: tools/sheet {USAGE[command]}'
+    out, names = SimpleNamespace(command=command, o=None, hosts=False, svg=None, dot=None, under=None), []
+    while rest:
+        first = rest.pop(0)
+        if not first.startswith('-') or first == '-':
+            names.append(first)
+        elif first not in OPTIONS[command] or getattr(out, first.lstrip('-')) or (first != '--hosts' and not rest):
+            raise Failed(usage)
+        else:
+            setattr(out, first.lstrip('-'), True if first == '--hosts' else rest.pop(0))
+    most = 2 if command == 'table' else 1
+    if not 1 <= len(names) <= most or (out.svg and out.dot) or names == ['-', '-']:
+        raise Failed(usage)
+    out.file, out.under = names[0], names[1] if len(names) == 2 else None
+    return out
+
+def name_of(path):
+    return 'standard input' if path == '-' else path
+
+def read_bytes(path, most=MOST):
+    try:
+        with open(0 if path == '-' else path, 'rb', closefd=path != '-') as f:
+            return f.read(most)
+    except (OSError, ValueError) as e:
+        raise Failed(f'{name_of(path)}: {getattr(e, "strerror", None) or e}') from None
+
+def read_text(path):
+    data = read_bytes(path, MOST_TEXT)
+    if len(data) == MOST_TEXT:
+        raise Wrong(1, 1, f'a text of {MOST_TEXT} bytes or more; expected one that a sheet of 4096 blocks needs')
+    try:
+        return data.decode('utf-8-sig')
+    except UnicodeDecodeError as e:
+        before = data[:e.start].decode('utf-8', 'replace')
+        line, column = before.count('\n') + 1, len(before) - before.rfind('\n')
+        raise Wrong(line, column, 'expected UTF-8') from None
+
+# a file gets all of it or stays as it was
+def deliver(path, data):
+    try:
+        if path in (None, '-'):
+            with open(1, 'wb', closefd=False) as f:
+                f.write(data)
+        elif os.path.exists(path) and not os.path.isfile(path):
+            with open(path, 'wb') as f:
+                f.write(data)
+        else:
+            replace(os.path.realpath(path), data)
+    except (OSError, ValueError) as e:
+        raise Failed(f'{"standard output" if path in (None, "-") else path}: {getattr(e, "strerror", None) or e}') from None
+
+def replace(path, data):
+    handle, made = tempfile.mkstemp(dir=os.path.dirname(path), prefix='.sheet-')
+    try:
+        with os.fdopen(handle, 'wb') as f:
+            f.write(data)
+        os.chmod(made, mode(path))
+        os.replace(made, path)
+    except BaseException:
+        os.unlink(made)
+        raise
+
+# that of the file that is replaced, or of a new one
+def mode(path):
+    if os.path.exists(path):
+        return os.stat(path).st_mode & 0o777
+    mask = os.umask(0)
+    os.umask(mask)
+    return 0o666 & ~mask

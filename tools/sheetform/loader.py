@@ -1,0 +1,124 @@
+"""Runs the proved programs on a sheet and a host list, and says what the six numbers mean. The words are README.md's."""
+import os, subprocess, sys, tempfile
+
+ROOT = os.path.dirname(os.path.dirname(os.path.dirname(os.path.realpath(__file__))))
+# the programs take 16 blocks; more count as no bytes
+MOST = 8192
+
+KINDS = {
+    1: "the sheet's layout is broken",
+    2: 'no host function for an import',
+    3: 'a number is out of range',
+    4: "a signature is no func type with at most one result, or no scheduler's",
+    5: 'the registers do not begin with the parameters',
+    6: 'a function has no code',
+    7: 'the last instruction falls through',
+    8: 'wrong number of arguments',
+    9: 'a function with captures is called directly, or is the start',
+    10: 'Promote into what is not dyn',
+    11: 'a type of the wrong kind',
+    12: 'a wrong modifier',
+    13: "a handler's range, target or register is wrong",
+    14: 'a catch register is not dyn',
+    15: 'a tail call under a handler',
+    16: "a parent is no struct, or its fields are not the first of the child's",
+    17: 'over 256 types on a chain, or a cycle',
+    18: 'a constant holds itself or a later one, or nests over 64 deep',
+    19: "a hook's callee has the wrong shape",
+    20: 'the start function takes or gives something',
+    21: 'a parameter list is wrong',
+    22: 'a call shape is wrong',
+    23: 'the host list is broken or holds a pair twice',
+    24: 'table or work is shorter than 64 + 8N words',
+    25: 'not a linked table',
+    26: 'never given',
+}
+OUT_OF = ['type', 'function', 'string', 'constant', 'register', 'import', 'global', 'branch target', 'table target', 'table', 'name', 'type ref', 'capture',
+          'call shape']
+WANTED = ['a struct', 'an array', 'a map', 'a cell']
+
+# words 1, 3, 0 and the check word of their block
+def empty_list():
+    return b'\1\0\0\0\3\0\0\0' + bytes(500) + b'\20\0\0\0'
+
+class Loader:
+    """A proved program that loads, for the tool that runs it."""
+    def __init__(self, tool, program):
+        self.tool, self.program, self.path = tool, program, f'{ROOT}/target/bin/{program}'
+
+    def stop(self, message):
+        print(f'{self.tool}: {message}', file=sys.stderr)
+        sys.exit(2)
+
+    # one byte more than the program takes shows that there are more
+    def read(self, path):
+        try:
+            with open(path, 'rb') as f:
+                data = f.read(MOST + 1)
+        except (OSError, ValueError) as e:
+            self.stop(f'{path}: {getattr(e, "strerror", None) or e}')
+        self.warn(path, data)
+        return data
+
+    def warn(self, name, data):
+        if len(data) > MOST:
+            print(f'{self.tool}: {name} has over {MOST} bytes (16 blocks), the most that the {self.program} takes: it is tried as a file of no bytes', file=sys.stderr)
+
+    def build(self):
+        print(f"{self.tool}: target/bin/{self.program} is not here; building it by 'rt check {self.program}', which proves the loader first "
+              '(some 15 minutes from nothing)', file=sys.stderr, flush=True)
+        try:
+            done = subprocess.run(['rt', 'check', self.program], cwd=ROOT, stdout=sys.stderr)
+        except OSError as e:
+            self.stop(f"rt of Rattle's kit is needed to build the {self.program}, and cannot be run: {e.strerror}")
+        if done.returncode != 0 or not os.path.exists(self.path):
+            self.stop(f"the {self.program} could not be built: 'rt check {self.program}' failed")
+
+    # the six numbers, and what else the program prints, as numbers
+    def run(self, sheet, hosts):
+        if not os.path.exists(self.path):
+            self.build()
+        with tempfile.TemporaryDirectory() as folder:
+            with open(f'{folder}/hosts', 'wb') as f:
+                f.write(hosts)
+            try:
+                done = subprocess.run([self.path], cwd=folder, input=sheet, stdout=subprocess.PIPE)
+            except OSError as e:
+                self.stop(f'{self.path}: {e.strerror}')
+        words = done.stdout.split()
+        if done.returncode != 0 or len(words) < 6 or not all(w.isdigit() for w in words):
+            self.stop(f'{self.path} ended with status {done.returncode} and printed {done.stdout[:200]!r}')
+        numbers = [int(w) for w in words]
+        return numbers[:6], numbers[6:]
+
+# the strings of an intact sheet: its first part, after edition and N
+def strings(sheet):
+    data = b''.join(sheet[k:k + 508] for k in range(0, len(sheet), 512))
+    word = lambda at: int.from_bytes(data[at:at + 4], 'little')
+    texts, at = [], 12
+    for _ in range(word(8)):
+        texts.append(data[at + 4:at + 4 + word(at)].decode())
+        at += 4 + -(-word(at) // 4) * 4
+    return texts
+
+# what word, number and second say of that kind
+def details(sheet, kind, word, number, second):
+    if kind == 2:
+        texts = strings(sheet)
+        return f': module {texts[number]!r} (string {number}), name {texts[second]!r} (string {second})'
+    if kind == 3:
+        return f': {OUT_OF[word - 1]} {number}'
+    if kind == 8:
+        return f': {number} expected, {second} found'
+    if kind == 11:
+        return f': {WANTED[word - 1]} is wanted'
+    return f': hook {number}' if kind == 19 else ''
+
+def meaning(sheet, numbers):
+    kind, word, number, second, function, position = numbers
+    if kind == 0:
+        return f'accepted; the linked table has {number} words'
+    said = f'refused, kind {kind}: {KINDS[kind]}{details(sheet, kind, word, number, second)}'
+    if function:
+        said += f'\nin function {function - 1}' + (f', instruction {position - 1}' if position else '')
+    return said
