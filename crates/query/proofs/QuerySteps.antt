@@ -1,10 +1,10 @@
 -- The tests of the family query, one law for each return.
-use Prim.Native.Nat.{ℕ, _+_, _-_, _*_, _/_, _≤_, _<_}
+use Prim.Native.Nat.{ℕ, _+_, _-_, _*_, _≤_, _<_}
 use mathlib.Core.Path.{_≡_, refl, sym, ap, _∙_}
 use mathlib.Core.List.{List}
 use mathlib.Core.Bool.{Bool, true, false, cond, _&&_}
 use native.Mathlib.Omega.{arith}
-use native.Mathlib.Decide.{decLe}
+use native.Mathlib.Decide.{decLt}
 use lib.Dec.{eqb, leb, ltb}
 use lib.ListN.{length, getD}
 use borrow.Author.Tests.{leb-true, le-leb, lt-leb, eqb-true, eq-eqb, ne-eqb, lt-ltb, le-ltb}
@@ -73,18 +73,18 @@ module _ (ws : List ℕ) where
     pub past : end ≤ start → false ≡ isLinked ws
     past h = sym (five ∙ ap (λ x. A && B && C && D && x) (lt-leb (getD ws 9 0 + 1 + 2 * getD ws (getD ws 9 0) 0) (getD ws 1 0) (omega (arith, e, s))) ∙ row-5 A B C D)
 
-    -- the count, in half of the words that are left
-    halved : {count : ℕ} → count ≡ getD ws (getD ws 9 0) 0 → start < end → leb count ((end - start - 1) / 2) ≡ E
-    halved {count} c h = go (decLe count ((end - start - 1) / 2))
+    -- twice the count, in the words that are left after it
+    doubled : {count : ℕ} → count ≡ getD ws (getD ws 9 0) 0 → start < end → ltb (2 * count) (end - start) ≡ E
+    doubled {count} c h = go (decLt (2 * count) (end - start))
       where
-        go : Dec (count ≤ (end - start - 1) / 2) → leb count ((end - start - 1) / 2) ≡ E
-        go (yes l) = le-leb count ((end - start - 1) / 2) l ∙ sym (le-leb (getD ws 9 0 + 1 + 2 * getD ws (getD ws 9 0) 0) (getD ws 1 0) (omega (arith, e, s, c)))
-        go (no l) = lt-leb count ((end - start - 1) / 2) (omega arith) ∙ sym (lt-leb (getD ws 9 0 + 1 + 2 * getD ws (getD ws 9 0) 0) (getD ws 1 0) (omega (arith, e, s, c)))
+        go : Dec (2 * count < end - start) → ltb (2 * count) (end - start) ≡ E
+        go (yes l) = lt-ltb (2 * count) (end - start) l ∙ sym (le-leb (getD ws 9 0 + 1 + 2 * getD ws (getD ws 9 0) 0) (getD ws 1 0) (omega (arith, e, s, c)))
+        go (no l) = le-ltb (2 * count) (end - start) (omega arith) ∙ sym (lt-leb (getD ws 9 0 + 1 + 2 * getD ws (getD ws 9 0) 0) (getD ws 1 0) (omega (arith, e, s, c)))
 
     pub last-test : {x count : ℕ} → 10 ≤ length ws → x ≡ getD ws 0 0 → x ≡ 1 → end ≤ length ws → 10 ≤ start → start < end → count ≡ getD ws start 0 →
-        leb count ((end - start - 1) / 2) ≡ isLinked ws
+        ltb (2 * count) (end - start) ≡ isLinked ws
     last-test {x} {count} a b b' c d f g =
-        halved (g ∙ ap (λ k. getD ws k 0) s) f
+        doubled (g ∙ ap (λ k. getD ws k 0) s) f
         ∙ sym
         (five
         ∙ ap (λ x. x && B && C && D && E) (le-leb 10 (length ws) a)
@@ -150,10 +150,11 @@ module _ (ws : List ℕ) (t a : ℕ) {start count : ℕ} (s : start ≡ spansSta
         ∙ ap (λ x. ltb t count && ltb a count && x && ltb (preOf t) (getD ws (start + 2 + 2 * a) 0)) (lt-leb (preOf a) (preOf t) (omega (arith, p, l)))
         ∙ four-3 (ltb t count) (ltb a count) (ltb (preOf t) (getD ws (start + 2 + 2 * a) 0)))
 
-    pub last-of-four : {post : ℕ} → t < count → a < count → low ≤ pre → post ≡ getD ws (start + 2 + 2 * a) 0 → ltb pre post ≡ isWithin ws t a
+    pub last-of-four : {post : ℕ} → t < count → a < count → low ≤ pre → post ≡ getD ws (start + 1 + 2 * a + 1) 0 → ltb pre post ≡ isWithin ws t a
     last-of-four {post} h k j q =
+        let z : start + 1 + 2 * a + 1 ≡ start + 2 + 2 * a = omega arith in
         ap (λ x. ltb x post) p
-        ∙ ap (ltb (preOf t)) q
+        ∙ ap (ltb (preOf t)) (q ∙ ap (λ i. getD ws i 0) z)
         ∙ sym
         (four
         ∙ ap (λ x. x && ltb a count && leb (preOf a) (preOf t) && ltb (preOf t) (getD ws (start + 2 + 2 * a) 0)) (lt-ltb t count h)

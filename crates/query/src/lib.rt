@@ -1,13 +1,29 @@
 // The family query on a linked table.
 ghost use mathlib.Core.Path.{_≡_};
 ghost use mathlib.Core.Bool.{true};
-ghost use Prim.Native.Nat.{_+_, _*_, _≤_};
-ghost use lib.ListN.{length};
+ghost use Prim.Native.Nat.{_+_, _*_, _≤_, _<_};
+ghost use lib.ListN.{length, getD};
 ghost use Rattle.descends.specs.Descends.{spansStart, spanCount, isLinked, isWithin, descends};
 use error::TypeId;
 use region::at;
 
-// Edition 1, and a spans section inside the L words. The count is compared with half of what is left, so nothing wraps.
+fn wide(x: u32) -> usize
+    ensures { λ r. ⌜ r ≡ x ⌝ }
+    ensures { λ r. ⌜ r < 4294967296 ⌝ }
+{
+    x as usize
+}
+
+// How many spans the words say there are.
+fn count_at(table: &[u32], start: usize) -> usize
+    requires { ⌜ start < length (now table) ⌝ }
+    ensures { λ r. ⌜ r ≡ getD (now (table .entry)) start 0 ⌝ }
+    ensures { λ r. ⌜ r < 4294967296 ⌝ }
+{
+    wide(table[start])
+}
+
+// Edition 1, and a spans section inside the L words. Twice a count of 32 bits does not wrap.
 fn is_linked(table: &[u32]) -> bool
     ensures { λ r. ⌜ r ≡ isLinked (now (table .entry)) ⌝ }
 {
@@ -28,7 +44,7 @@ fn is_linked(table: &[u32]) -> bool
     if end <= start {
         return false;
     }
-    at(table, start) <= (end - start - 1) / 2
+    2 * count_at(table, start) < end - start
 }
 
 // Both numbers are known, and pre(a) ≤ pre(t) < post(a).
@@ -44,11 +60,13 @@ fn is_within(table: &[u32], start: usize, count: usize, t: u32, a: u32) -> bool
     if count <= a as usize {
         return false;
     }
-    let pre = at(table, start + 1 + 2 * t as usize);
-    if pre < at(table, start + 1 + 2 * a as usize) {
+    let first = start + 1;
+    let own = first + 2 * a as usize;
+    let pre = at(table, first + 2 * t as usize);
+    if pre < at(table, own) {
         return false;
     }
-    pre < at(table, start + 2 + 2 * a as usize)
+    pre < at(table, own + 1)
 }
 
 fn answer(table: &[u32], t: u32, a: u32) -> bool

@@ -28,14 +28,14 @@ returns-4 c = search (needs, linking)
 returns-5 : tie.Need-returns-5
 returns-5 c = search (needs, linking)
 
-at-requires-4 : tie.Need-at-requires-4
-at-requires-4 c κs = search (needs, linking)
+count-at-requires : tie.Need-count-at-requires
+count-at-requires c κs = search (needs, linking)
+
+mul-result : tie.Need-mul-result
+mul-result c = search (needs, linking)
 
 sub-result : tie.Need-sub-result
 sub-result c = search (needs, linking)
-
-sub-result-2 : tie.Need-sub-result-2
-sub-result-2 c = search (needs, linking)
 
 returns-6 : tie.Need-returns-6
 returns-6 c = search (needs, linking)
@@ -52,7 +52,7 @@ is-linked-spec =
     returns-3
     returns-4
     returns-5
-    at-requires-4
+    count-at-requires
+    mul-result
     sub-result
-    sub-result-2
     returns-6)

@@ -10,26 +10,23 @@ returns c = search (needs, withins)
 returns-2 : tie.Need-returns-2
 returns-2 c = search (needs, withins)
 
-add-at : tie.Need-add-at
-add-at c = search (needs, withins)
+add-first : tie.Need-add-first
+add-first c = search (needs, withins)
+
+mul-own : tie.Need-mul-own
+mul-own c = search (needs, withins)
+
+add-own : tie.Need-add-own
+add-own c = search (needs, withins)
 
 mul-at : tie.Need-mul-at
 mul-at c = search (needs, withins)
 
-add-at-2 : tie.Need-add-at-2
-add-at-2 c = search (needs, withins)
+add-at : tie.Need-add-at
+add-at c = search (needs, withins)
 
 at-requires : tie.Need-at-requires
 at-requires c κs = search (needs, withins)
-
-add-at-3 : tie.Need-add-at-3
-add-at-3 c = search (needs, withins)
-
-mul-at-2 : tie.Need-mul-at-2
-mul-at-2 c = search (needs, withins)
-
-add-at-4 : tie.Need-add-at-4
-add-at-4 c = search (needs, withins)
 
 at-requires-2 : tie.Need-at-requires-2
 at-requires-2 c κs = search (needs, withins)
@@ -37,14 +34,8 @@ at-requires-2 c κs = search (needs, withins)
 returns-3 : tie.Need-returns-3
 returns-3 c = search (needs, withins)
 
-add-at-5 : tie.Need-add-at-5
-add-at-5 c = search (needs, withins)
-
-mul-at-3 : tie.Need-mul-at-3
-mul-at-3 c = search (needs, withins)
-
-add-at-6 : tie.Need-add-at-6
-add-at-6 c = search (needs, withins)
+add-at-2 : tie.Need-add-at-2
+add-at-2 c = search (needs, withins)
 
 at-requires-3 : tie.Need-at-requires-3
 at-requires-3 c κs = search (needs, withins)
@@ -58,17 +49,14 @@ is-within-spec =
     (tie.spec
     returns
     returns-2
-    add-at
+    add-first
+    mul-own
+    add-own
     mul-at
-    add-at-2
+    add-at
     at-requires
-    add-at-3
-    mul-at-2
-    add-at-4
     at-requires-2
     returns-3
-    add-at-5
-    mul-at-3
-    add-at-6
+    add-at-2
     at-requires-3
     returns-4)
