@@ -9,15 +9,16 @@ use Rattle.blocks.specs.Blocks.{words}
 use Rattle.blocks.specs.Frame.{firstWords}
 use Rattle.reader.specs.declared.Step.{Step}
 use Rattle.reader.specs.declared.Step.the-variants.{Next, Broken}
-use Rattle.reader.specs.Reader.{Got, broken, got, Reader, andThen, _>>=_, pure, word, many, listOf}
+use Rattle.reader.specs.Reader.{Got, broken, got, Reader, andThen, word, many, listOf}
 use Rattle.reader.specs.ReaderLaws.{then-inv}
 use Rattle.reader.specs.Step.{stepOf}
 use Rattle.reader.specs.StepLaws.{word-read, word-none}
 use Rattle.reader.specs.Value.{Whole, valueOf}
 use Rattle.reader.specs.ValueLaws.{whole-inv, not-whole, value-got}
-use Rattle.reader.specs.RecordSteps.{Sized, sized-next, sized-end, sized-word, sized-list, lists-alike}
+use Rattle.reader.specs.RecordSteps.{sized-word, sized-list}
 use Rattle.sheet.specs.Module.{Arg, Handler, Func}
 use Rattle.sheet.specs.Decode.{valueType, paramList, argOf, handlerOf, switchOf, instOf, functionOf}
+use Rattle.sheet.specs.SizeLaws.{handler-sized, shapes-alike}
 use Rattle.code.specs.Callee.{noFunc}
 use Rattle.bodies.specs.declared.Body.{Body}
 use Rattle.bodies.specs.declared.Front.{Front}
@@ -35,21 +36,6 @@ unfolding endOf
 end-broken e = ap endOf (sym e)
 
 -- ── four parts ──
-
-arg-sized : Sized argOf 2
-unfolding argOf
-arg-sized = sized-next (λ k. word >>= (λ a. pure (record { kind = k; name = a }))) λ k. sized-next (λ a. pure (record { kind = k; name = a })) λ a. sized-end _
-
-handler-sized : Sized handlerOf 4
-unfolding handlerOf
-handler-sized =
-    sized-next (λ s. word >>= (λ e. word >>= (λ t. word >>= (λ c. pure (record { start = s; end = e; target = t; catch = c }))))) λ s.
-    sized-next (λ e. word >>= (λ t. word >>= (λ c. pure (record { start = s; end = e; target = t; catch = c })))) λ e.
-    sized-next (λ t. word >>= (λ c. pure (record { start = s; end = e; target = t; catch = c }))) λ t.
-    sized-next (λ c. pure (record { start = s; end = e; target = t; catch = c })) λ c. sized-end _
-
-shapes-alike : (ws : List ℕ) (p : ℕ) {r : Step} → r ≡ stepOf (listOf (listOf (many 2 word)) ws p) → r ≡ stepOf (listOf (listOf argOf) ws p)
-shapes-alike ws p e = e ∙ lists-alike (listOf (many 2 word)) (listOf argOf) ws (λ q. sized-list arg-sized ws q refl) p
 
 module _ (ws : List ℕ) (at p₁ p₂ p₃ p₄ : ℕ) {r₁ r₂ r₃ r₄ : Step} where
   pub fronts : r₁ ≡ stepOf (listOf valueType ws (at + 1)) → p₁ ≡ endOf r₁ → r₂ ≡ stepOf (paramList ws p₁) → p₂ ≡ endOf r₂ →

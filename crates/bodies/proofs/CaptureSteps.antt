@@ -9,6 +9,7 @@ use Rattle.blocks.specs.Frame.{firstWords}
 use Rattle.reader.specs.Reader.{word, listOf}
 use Rattle.reader.specs.Step.{stepOf}
 use Rattle.reader.specs.Value.{Whole, valueOf}
+use Rattle.reader.specs.SizeLaws.{list-count}
 use Rattle.sheet.specs.Module.{Func}
 use Rattle.sheet.specs.Decode.{valueType, handlerOf, switchOf, functionOf}
 use Rattle.layout.specs.Opened.{moduleIn}
@@ -21,7 +22,6 @@ use Rattle.code.specs.Callee.{noFunc, funcAt}
 use Rattle.bodies.specs.declared.Front.{Front}
 use Rattle.bodies.specs.declared.Back.{Back}
 use Rattle.bodies.specs.Bodies.{endOf, Fronts, Backs, Countable}
-use Rattle.bodies.specs.BodyLaws.{list-count}
 use Rattle.bodies.proofs.BodySteps.{placed-body}
 
 -- ── one function ──

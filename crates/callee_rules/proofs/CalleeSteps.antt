@@ -15,21 +15,20 @@ use Rattle.error.specs.Answer.{unless}
 use Rattle.error.specs.Verdict.{verdictOf}
 use Rattle.error.specs.VerdictLaws.{verdict-then, verdict-stop}
 use Rattle.reader.specs.Reader.{got}
-use Rattle.sheet.specs.Decode.{importOf, functionOf}
-use Rattle.sheet.specs.Encode.{encodeImport, encodeFunc}
-use Rattle.sheet.specs.FuncCodes.{import-codes, function-codes}
+use Rattle.sheet.specs.Decode.{functionOf}
 use Rattle.layout.specs.Opened.{moduleIn}
 use Rattle.imports.specs.Params.{sigParams}
 use Rattle.opening.specs.declared.Opened.{Opened}
 use Rattle.opening.specs.Ready.{Ready, posAt}
-use Rattle.opening.specs.ReadyLaws.{funcs-in, imports-in, entry-room, entry-ends, funcs-inside}
+use Rattle.opening.specs.ReadyLaws.{funcs-in, entry-ends}
+use Rattle.opening.specs.MemberLaws.{func-sig, import-sig}
 use Rattle.code.specs.Callee.{noFunc, noImport, funcAt, importAt, noCaptures}
 use Rattle.code.specs.Code.{windowFaults, arityFaults, directFaults}
 use Rattle.frames.specs.declared.Frame.{Frame}
 use Rattle.frames.specs.Frames.{funcOf, Framed}
 use Rattle.number_rules.specs.Numbers.{windowIn, captureFaults}
 use Rattle.callee_rules.specs.Callees.{importFaults, Checkable}
-use Rattle.callee_rules.proofs.Words.{word-within, word-held, few-captures}
+use Rattle.callee_rules.proofs.Words.{few-captures}
 
 -- ── functions and imports by number ──
 
@@ -42,49 +41,19 @@ module _ (b w : List ℕ) (o : Opened) (x : Ready (firstWords b (o .layout .word
     unfolding funcAt
     function = entry-ends functionOf ws (moduleIn ws .funcs) w (o .index .funcs) (x .funcs) noFunc g (funcs-in ws w o x g h)
 
-    pub callee-room : o .index .funcs + g < length w
-    callee-room = entry-room functionOf ws (moduleIn ws .funcs) w (o .index .funcs) (x .funcs) g (funcs-in ws w o x g h)
-
     pub callee-few : length (funcAt (moduleIn ws) g .captures) ≤ o .layout .words
     callee-few = omega (arith, few-captures ws _ (funcAt (moduleIn ws) g) _ function, length-firstWords b (o .layout .words))
 
-    pub callee-place : 4 * o .layout .words + g < length w
-    callee-place = omega (arith, funcs-inside ws w o x, funcs-in ws w o x g h, x .room)
-
     pub callee-params : {at s r : ℕ} → at ≡ posAt w (o .index .funcs) g → s ≡ getD (words b) at 0 → r ≡ length (sigParams (moduleIn ws) s)
         → r ≡ length (sigParams (moduleIn ws) (funcAt (moduleIn ws) g .sig))
-    unfolding encodeFunc
-    callee-params {at} {s} e k y =
-        let z : at ≡ posAt w (o .index .funcs) g + 0 = omega (arith, e) in
-        let v : s ≡ funcAt (moduleIn ws) g .sig =
-        word-held functionOf encodeFunc _ b (o .layout .words) (function-codes ws) (posAt w (o .index .funcs) g) (funcAt (moduleIn ws) g) _ function 0 (omega arith) (k ∙ ap (λ j. getD (words b) j 0) z) in
-        y ∙ ap (λ t. length (sigParams (moduleIn ws) t)) v
+    unfolding funcAt
+    callee-params e k y = y ∙ ap (λ t. length (sigParams (moduleIn ws) t)) (func-sig b w o x g h noFunc e k)
 
   module _ (j : ℕ) (h : j < o .counts .imports) where
-    imported : importOf ws (posAt w (o .index .imports) j) ≡ got (importAt (moduleIn ws) j) (posAt w (o .index .imports) (j + 1))
-    unfolding importAt
-    imported = entry-ends importOf ws (moduleIn ws .imports) w (o .index .imports) (x .imports) noImport j (imports-in ws w o x j h)
-
-    pub import-room : o .index .imports + j < length w
-    import-room = entry-room importOf ws (moduleIn ws .imports) w (o .index .imports) (x .imports) j (imports-in ws w o x j h)
-
-    pub import-within : {at : ℕ} → at ≡ posAt w (o .index .imports) j → at + 2 < o .layout .words
-    unfolding encodeImport
-    import-within e =
-        omega (
-          arith,
-          e,
-          word-within importOf encodeImport _ b (o .layout .words) (import-codes ws) (posAt w (o .index .imports) j) (importAt (moduleIn ws) j) _ imported 2 (omega arith),
-        )
-
     pub import-params : {at s r : ℕ} → at ≡ posAt w (o .index .imports) j → s ≡ getD (words b) (at + 2) 0 → r ≡ length (sigParams (moduleIn ws) s)
         → r ≡ length (sigParams (moduleIn ws) (importAt (moduleIn ws) j .sig))
-    unfolding encodeImport
-    import-params {at} {s} e k y =
-        let v : s ≡ importAt (moduleIn ws) j .sig =
-        word-held importOf encodeImport _ b (o .layout .words) (import-codes ws) (posAt w (o .index .imports) j) (importAt (moduleIn ws) j) _ imported 2 (omega arith)
-        (k ∙ ap (λ p. getD (words b) (p + 2) 0) e) in
-        y ∙ ap (λ t. length (sigParams (moduleIn ws) t)) v
+    unfolding importAt
+    import-params e k y = y ∙ ap (λ t. length (sigParams (moduleIn ws) t)) (import-sig b w o x j h e noImport k)
 
 -- ── calls ──
 
@@ -134,8 +103,8 @@ module _ (b w : List ℕ) (o : Opened) (c : Frame) (x : Checkable (firstWords b 
 
         pub direct-captures : {m : ℕ} {r : Verdict} → g < o .counts .funcs → u ≡ Holds → u ≡ verdictOf (arityFaults p n) → m ≡ getD w (4 * o .layout .words + g) 0 → r ≡ verdictOf (captureFaults m)
             → r ≡ verdictOf (directFaults (moduleIn sheetWords) (funcOf sheetWords c) g first n)
-        unfolding directFaults captureFaults noCaptures
+        unfolding directFaults captureFaults noCaptures funcAt
         direct-captures {m} l a z t q =
-            let s : m ≡ length (funcAt (moduleIn sheetWords) g .captures) = t ∙ x .captured .captures g (funcs-in sheetWords w o (x .ready) g l) in
+            let s : m ≡ length (funcAt (moduleIn sheetWords) g .captures) = t ∙ x .captured .captures g noFunc (funcs-in sheetWords w o (x .ready) g l) in
             verdict-then (windowFaults (funcOf sheetWords c) first n ++ arityFaults (length (sigParams (moduleIn sheetWords) (funcAt (moduleIn sheetWords) g .sig))) n)
             (unless (noCaptures (funcAt (moduleIn sheetWords) g)) CalleeHasCaptures) a (both z) (q ∙ ap (λ k. verdictOf (captureFaults k)) s)

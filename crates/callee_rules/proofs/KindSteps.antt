@@ -4,7 +4,7 @@ use mathlib.Core.Path.{_≡_, sym, ap, _∙_}
 use mathlib.Core.List.{List}
 use native.Mathlib.Omega.{arith}
 use lib.Dec.{eqb}
-use lib.ListN.{length, getD, List·getD-eq-default}
+use lib.ListN.{getD, List·getD-eq-default}
 use borrow.Author.Tests.{eq-eqb, ne-eqb}
 use Rattle.blocks.specs.Blocks.{words}
 use Rattle.blocks.specs.Frame.{firstWords}
@@ -21,11 +21,12 @@ use Rattle.sheet.specs.TypeCodes.{type-codes}
 use Rattle.layout.specs.Opened.{moduleIn}
 use Rattle.opening.specs.declared.Opened.{Opened}
 use Rattle.opening.specs.Ready.{Ready, posAt}
-use Rattle.opening.specs.ReadyLaws.{count-types, types-in, entry-room, entry-ends}
+use Rattle.opening.specs.ReadyLaws.{count-types, types-in, entry-ends}
 use Rattle.frames.specs.declared.Frame.{Frame}
 use Rattle.frames.specs.Frames.{funcOf, Framed}
+use Rattle.reader.specs.SizeLaws.{first-held}
 use Rattle.callee_rules.specs.Callees.{wantedFaults}
-use Rattle.callee_rules.proofs.Words.{word-held, number-within, number-held}
+use Rattle.callee_rules.proofs.Words.{number-within, number-held}
 use Rattle.number_rules.proofs.NumberSteps.{test-holds, test-broken}
 
 module _ {k : TypeKind} where
@@ -49,15 +50,11 @@ module _ (b w : List ℕ) (o : Opened) (x : Ready (firstWords b (o .layout .word
   abbrev ws : List ℕ
   ws = firstWords b (o .layout .words)
 
-  pub kind-room : t < o .counts .types → o .index .types + t < length w
-  kind-room h = entry-room typeDef ws (moduleIn ws .types) w (o .index .types) (x .types) t (types-in ws w o x t h)
-
   pub kind-read : {at r : ℕ} → t < o .counts .types → at ≡ posAt w (o .index .types) t → r ≡ getD (words b) at 0 → r ≡ kindWord (typeAt (moduleIn ws .types) t)
   unfolding encodeType typeAt
   kind-read {at} h e k =
-      let z : at ≡ posAt w (o .index .types) t + 0 = omega (arith, e) in
-      word-held typeDef encodeType _ b (o .layout .words) (type-codes ws) (posAt w (o .index .types) t) (typeAt (moduleIn ws .types) t) _
-      (entry-ends typeDef ws (moduleIn ws .types) w (o .index .types) (x .types) coroutine t (types-in ws w o x t h)) 0 (omega arith) (k ∙ ap (λ j. getD (words b) j 0) z)
+      first-held typeDef encodeType _ b (o .layout .words) (type-codes ws) (posAt w (o .index .types) t) (typeAt (moduleIn ws .types) t) _
+      (entry-ends typeDef ws (moduleIn ws .types) w (o .index .types) (x .types) coroutine t (types-in ws w o x t h)) (omega arith) (k ∙ ap (λ j. getD (words b) j 0) e)
 
   pub kind-none : o .counts .types ≤ t → 6 ≡ kindWord (typeAt (moduleIn ws .types) t)
   unfolding kindWord typeAt

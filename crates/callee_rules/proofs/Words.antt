@@ -1,36 +1,23 @@
 -- Words of what a function, an import or a type holds, and how many there are.
 use Prim.Native.Nat.{ℕ, suc, _+_, _*_, _≤_, _<_}
-use mathlib.Core.Path.{_≡_, refl, sym, ap, _∙_}
+use mathlib.Core.Path.{_≡_, refl, ap, _∙_}
 use mathlib.Core.List.{List, [], _∷_, _++_}
-use mathlib.Core.Bool.{Bool, true, false}
 use native.Mathlib.Omega.{arith}
 use lib.Dec.{eqb}
-use lib.ListN.{length, getD, drop, length-append, length-drop}
-use borrow.Author.Tests.{eqb-true}
+use lib.ListN.{length, getD, length-append}
 use Rattle.lists.specs.ListLaws.{length-concatMap, getD-concatMap}
 use Rattle.blocks.specs.Blocks.{words}
 use Rattle.blocks.specs.Frame.{firstWords}
-use Rattle.blocks.specs.FirstWords.{length-firstWords, firstWords-at}
-use Rattle.reader.specs.Reader.{got, Reader, word, listOf, encodeList, encodeWords}
-use Rattle.reader.specs.ReaderLaws.{Stands, Codes, stands-in, words-codes}
-use Rattle.reader.specs.ReadLaws.{read-at}
-use Rattle.sheet.specs.Module.{ValueType, basic, ref, valueWord, isDyn, Arg, Func}
+use Rattle.reader.specs.Reader.{got, word, listOf, encodeList, encodeWords}
+use Rattle.reader.specs.ReaderLaws.{stands-in, words-codes}
+use Rattle.reader.specs.SizeLaws.{word-within, word-held}
+use Rattle.sheet.specs.Module.{ValueType, basic, isDyn, Arg, Func}
 use Rattle.sheet.specs.Decode.{valueType, functionOf, argOf}
 use Rattle.sheet.specs.Encode.{encodeValue, encodeParams, encodeArg, encodeHandler, encodeSwitch, encodeInst, encodeFunc}
 use Rattle.sheet.specs.TypeCodes.{values-codes}
 use Rattle.sheet.specs.FuncCodes.{arg-codes, args-codes, function-codes}
 use Rattle.index.specs.IndexLaws.{list-fit, indexed}
-
-within : {ws : List ℕ} {p q : ℕ} {xs : List ℕ} → Stands ws p xs q → 0 < length xs → q ≤ length ws
-within {ws} {p} {q} {xs} s h = omega (arith, s .end, ap length (s .words), length-append xs (drop q ws), length-drop p ws, length-drop q ws)
-
--- word i of what stands at p
-module _ {A : Type 0} (f : Reader A) (enc : A → List ℕ) (ok : A → Bool) (b : List ℕ) (n : ℕ) (l : Codes (firstWords b n) f enc ok) (p : ℕ) (a : A) (q : ℕ) (e : f (firstWords b n) p ≡ got a q) (i : ℕ) (h : i < length (enc a)) where
-  pub word-within : p + i < n
-  word-within = let s = l .found p a q e .stands in omega (arith, within s (omega arith), s .end, length-firstWords b n)
-
-  pub word-held : {s : ℕ} → s ≡ getD (words b) (p + i) 0 → s ≡ getD (enc a) i 0
-  word-held k = k ∙ sym (firstWords-at b n (p + i) word-within) ∙ read-at (firstWords b n) f enc ok l p a q e i h
+use Rattle.signatures.specs.SignatureLaws.{dyn-word}
 
 -- ── lists of words and of value types ──
 
@@ -42,16 +29,6 @@ module _ (b : List ℕ) (n at : ℕ) (xs : List ℕ) (q : ℕ) (e : listOf word 
   number-held {s} k =
       let z : at + 1 + i ≡ at + suc i = omega arith in
       word-held (listOf word) encodeWords _ b n (words-codes (firstWords b n)) at xs q e (suc i) (omega arith) (k ∙ ap (λ j. getD (words b) j 0) z)
-
--- dyn has a word of its own
-dyn-word : (v : ValueType) → eqb (valueWord v) 12 ≡ isDyn v
-unfolding valueWord isDyn
-dyn-word (basic k) = refl
-dyn-word (ref t) = go (eqb (16 + t) 12) refl
-  where
-    go : (b : Bool) → eqb (16 + t) 12 ≡ b → eqb (16 + t) 12 ≡ false
-    go true e = absurd (let z : 16 + t ≡ 12 = eqb-true (16 + t) 12 e in omega arith)
-    go false e = e
 
 module _ (b : List ℕ) (n at : ℕ) (vs : List ValueType) (q : ℕ) (e : listOf valueType (firstWords b n) at ≡ got vs q) (i : ℕ) (h : i < length vs) where
   long : suc i < length (encodeList encodeValue vs)

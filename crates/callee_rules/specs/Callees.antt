@@ -13,9 +13,9 @@ use Rattle.imports.specs.Params.{sigParams}
 use Rattle.code.specs.Callee.{importAt}
 use Rattle.code.specs.Code.{windowFaults, arityFaults}
 use Rattle.opening.specs.declared.Opened.{Opened}
-use Rattle.opening.specs.Ready.{Ready}
+use Rattle.opening.specs.Ready.{Ready, Captured}
 use Rattle.frames.specs.declared.Frame.{Frame}
-use Rattle.frames.specs.Frames.{Framed, Captured, Shaped}
+use Rattle.frames.specs.Frames.{Framed, Shaped}
 
 -- a type with such a kind word
 unfoldable pub wantedFaults : TypeKind → ℕ → List LoadErrorKind

@@ -21,7 +21,7 @@ use Rattle.code.specs.Code.{covers}
 use Rattle.region.specs.Region.{Off, Frame}
 use Rattle.region.specs.RegionLaws.{frame-then}
 use Rattle.writing.specs.Writing.{written}
-use Rattle.writing.specs.WritingLaws.{written-by, written-then, written-length}
+use Rattle.writing.specs.WritingLaws.{written-by, written-then, written-length, join-written}
 use Rattle.table.specs.Records.{noHandler, catcher, catchTable}
 use Rattle.opening.specs.declared.Opened.{Opened}
 use Rattle.opening.specs.Ready.{Ready}
@@ -183,9 +183,7 @@ module _ (b w : List ℕ) (o : Opened) (x : Ready (firstWords b (o .layout .word
 
     module _ (u₂ : List ℕ) (t : ℕ) (e₂ : u₂ ≡ written u₁ second (c .code ∷ [])) (et : t ≡ second + 1) (h len : ℕ) (eh : h ≡ c .handlers) (el : len ≡ c .code) where
       two : u₂ ≡ written u at (1 ∷ c .code ∷ [])
-      two =
-          e₂ ∙ ap₂ (λ k i. written k i (c .code ∷ [])) e₁ s
-          ∙ written-then u at (1 ∷ []) (c .code ∷ []) (omega (arith, many-room))
+      two = join-written u at (1 ∷ []) (c .code ∷ []) (omega (arith, many-room)) u₁ second e₁ s e₂
 
       pub many-in : h < 4294967296 → len < 4294967296 → length w < 18446744073709551616 → AllIn u₂ w (c .body .handlers + 1) h t (6 * o .layout .words) len
       many-in a d e = record {

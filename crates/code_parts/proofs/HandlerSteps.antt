@@ -23,15 +23,16 @@ use Rattle.reader.specs.Reader.{broken, got, listOf}
 use Rattle.reader.specs.StepLaws.{word-read}
 use Rattle.reader.specs.Value.{Whole, valueOf}
 use Rattle.reader.specs.ValueLaws.{whole-inv, got-whole, value-got, list-within}
+use Rattle.reader.specs.SizeLaws.{list-count, many-inside}
 use Rattle.sheet.specs.Module.{ValueType, basic, ref, isDyn, Handler}
 use Rattle.sheet.specs.Decode.{valueType, handlerOf}
+use Rattle.sheet.specs.SizeLaws.{value-takes}
 use Rattle.code.specs.Code.{isDynRegister, goodHandler, handlerFaults}
 use Rattle.judging.specs.Judging.{Judges, listFaults, judges-start, judges-end, judges-whole, judges-next, judges-stop}
-use Rattle.bodies.specs.BodyLaws.{list-count}
 use Rattle.frames.specs.declared.Frame.{Frame}
 use Rattle.frames.specs.Frames.{funcOf, Framed}
 use Rattle.code_parts.specs.CodeParts.{noHandler, handlersFaults}
-use Rattle.code_parts.proofs.Sizes.{value-takes, handler-takes, many-inside, list-at, list-inside}
+use Rattle.code_parts.proofs.Sizes.{handler-takes, list-at, list-inside}
 
 -- ── a register ──
 

@@ -21,15 +21,14 @@ use Rattle.reader.specs.ReaderLaws.{then-inv}
 use Rattle.reader.specs.StepLaws.{word-read}
 use Rattle.reader.specs.Value.{Whole, valueOf}
 use Rattle.reader.specs.ValueLaws.{whole-inv, got-whole, value-got, list-within, many-first}
+use Rattle.reader.specs.SizeLaws.{list-count, word-takes, many-inside, many-takes, list-read}
 use Rattle.sheet.specs.Module.{Switch, Func}
 use Rattle.sheet.specs.Decode.{switchOf}
 use Rattle.code.specs.Code.{tableFaults}
 use Rattle.judging.specs.Judging.{Judges, listFaults, judges-start, judges-end, judges-whole, judges-next, judges-stop}
-use Rattle.bodies.specs.BodyLaws.{list-count}
 use Rattle.frames.specs.declared.Frame.{Frame}
 use Rattle.frames.specs.Frames.{funcOf, Framed}
 use Rattle.code_parts.specs.CodeParts.{noSwitch, tablesFaults}
-use Rattle.code_parts.proofs.Sizes.{word-takes, many-inside, many-takes, list-opened}
 
 -- ── one table ──
 
@@ -56,8 +55,7 @@ module _ (b : List ℕ) (n at : ℕ) {k : ℕ} (h : Whole (switchOf (firstWords 
       then-inv (listOf word (firstWords b n) at) _ g λ ts p₁ e₁ e₂. then-inv (word (firstWords b n) p₁) _ e₂ λ d p₂ e₃ e₄.
       let x : record { targets = ts; default = d } ≡ s = cc in
       let y : p₂ ≡ q = cc in
-      let m : many k word (firstWords b n) (at + 1) ≡ got ts p₁ =
-      ap (λ c. many c word (firstWords b n) (at + 1)) e ∙ sym (list-opened word 1 word-takes b n at (list-within word b n at (got-whole e₁))) ∙ e₁ in
+      let m : many k word (firstWords b n) (at + 1) ≡ got ts p₁ = list-read word b n at ts p₁ e₁ e in
       f s q g
       (ap (λ c. many c word (firstWords b n) (at + 1)) (add-one k)
       ∙ many-more word (firstWords b n) k (at + 1) ts p₁ d q m (e₃ ∙ ap (got d) y)

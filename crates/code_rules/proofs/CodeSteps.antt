@@ -19,11 +19,11 @@ use Rattle.code.specs.Code.{lastFaults, codeFaults, codesFaults}
 use Rattle.region.specs.Region.{Off, Frame}
 use Rattle.region.specs.RegionLaws.{frame-refl, frame-then}
 use Rattle.opening.specs.declared.Opened.{Opened}
-use Rattle.opening.specs.Ready.{Ready}
+use Rattle.opening.specs.Ready.{Ready, Captured}
 use Rattle.opening.specs.ReadyLaws.{count-funcs, funcs-inside, ready-below}
 use Rattle.judging.specs.Clearing.{Clears, clears-start, clears-passed, clears-on, clears-refused}
 use Rattle.frames.specs.declared.Frame as frames
-use Rattle.frames.specs.Frames.{funcOf, Framed, Captured, Shaped}
+use Rattle.frames.specs.Frames.{funcOf, Framed, Shaped}
 use Rattle.code_parts.specs.CodeParts.{handlersFaults, tablesFaults, partsFaults}
 use Rattle.code_rules.specs.Sweep.{instsFaults, Ends, Marked, Above}
 use Rattle.code_rules.proofs.MarkSteps.{none-here, none-left}
@@ -89,7 +89,7 @@ module _ (o : Opened) where
 
     captured-above : Captured ws w o → Captured ws v o
     unfolding Above
-    captured-above y = record { captures = λ f h. a .same (4 * o .layout .words + f) (omega (arith, funcs-inside ws w o x)) ∙ y .captures f h }
+    captured-above y = record { captures = λ f d h. a .same (4 * o .layout .words + f) (omega (arith, funcs-inside ws w o x)) ∙ y .captures f d h }
 
 pub above-length : (o : Opened) (w v : List ℕ) → Above o w v → length v ≡ length w
 unfolding Above

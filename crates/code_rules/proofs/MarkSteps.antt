@@ -20,6 +20,7 @@ use Rattle.error.specs.Answer.{unless}
 use Rattle.reader.specs.Reader.{got, many}
 use Rattle.reader.specs.Value.{Whole, valueOf}
 use Rattle.reader.specs.ValueLaws.{got-whole, value-got, list-whole, list-value, many-first}
+use Rattle.reader.specs.SizeLaws.{list-count, many-inside}
 use Rattle.sheet.specs.Module.{Handler, Func}
 use Rattle.sheet.specs.Decode.{handlerOf}
 use Rattle.code.specs.Code.{isDynRegister, goodHandler, handlerFaults}
@@ -27,12 +28,11 @@ use Rattle.region.specs.Region.{Off, Frame, wordAt}
 use Rattle.region.specs.RegionLaws.{frame-refl, frame-then, frame-set}
 use Rattle.opening.specs.declared.Opened.{Opened}
 use Rattle.opening.specs.Ready.{Ready}
-use Rattle.bodies.specs.BodyLaws.{list-count}
 use Rattle.frames.specs.declared.Frame as frames
 use Rattle.frames.specs.Frames.{funcOf, Framed}
 use Rattle.code_parts.specs.CodeParts.{noHandler, handlersFaults}
 use Rattle.code_rules.specs.Sweep.{endAt, markAt, Marked}
-use Rattle.code_parts.proofs.Sizes.{handler-takes, many-inside}
+use Rattle.code_parts.proofs.Sizes.{handler-takes}
 use Rattle.code_parts.proofs.HandlerSteps.{handler-value}
 use Rattle.code_parts.proofs.LastSteps.{code-inside}
 

@@ -8,7 +8,6 @@ use borrow.Author.Tests.{ltb-true}
 use Rattle.lists.specs.Lists.{concatMap}
 use Rattle.blocks.specs.Blocks.{words}
 use Rattle.blocks.specs.Frame.{firstWords}
-use Rattle.blocks.specs.FirstWords.{length-firstWords, firstWords-at}
 use Rattle.error.specs.declared.What.the-variants.{Functions, Globals, Types}
 use Rattle.error.specs.declared.LoadErrorKind.{LoadErrorKind}
 use Rattle.error.specs.declared.Verdict.{Verdict}
@@ -18,9 +17,9 @@ use Rattle.error.specs.Answer.{inModule, inRange}
 use Rattle.error.specs.Verdict.{verdictOf, judgedOf, placed}
 use Rattle.error.specs.VerdictLaws.{placed-faults}
 use Rattle.reader.specs.Reader.{got, listOf}
-use Rattle.reader.specs.ReaderLaws.{stands-in, stands-at}
 use Rattle.reader.specs.Value.{Whole, valueOf}
 use Rattle.reader.specs.ValueLaws.{whole-inv, got-whole, value-got}
+use Rattle.reader.specs.SizeLaws.{word-within, word-held, first-held}
 use Rattle.sheet.specs.Module.{Export, Module}
 use Rattle.sheet.specs.Decode.{exportOf}
 use Rattle.sheet.specs.Encode.{encodeExport}
@@ -43,21 +42,15 @@ module _ (b : List ℕ) (n at : ℕ) {a : Export} {q : ℕ} (e : exportOf (first
 
   export-in : at + 2 < n
   unfolding encodeExport
-  export-in =
-      let s = export-codes (firstWords b n) .found at a q e .stands in
-      omega (arith, stands-in (firstWords b n) s, s .end, length-firstWords b n)
+  export-in = word-within exportOf encodeExport codedExport b n (export-codes (firstWords b n)) at a q e 2 (omega arith)
 
   export-kind : a .kind ≡ getD (words b) at 0
   unfolding encodeExport
-  export-kind =
-      let z : at + 0 ≡ at = omega arith in
-      sym (stands-at (firstWords b n) (export-codes (firstWords b n) .found at a q e .stands) 0 (omega arith))
-      ∙ ap (λ k. getD (firstWords b n) k 0) z ∙ firstWords-at b n at (omega (arith, export-in))
+  export-kind = sym (first-held exportOf encodeExport codedExport b n (export-codes (firstWords b n)) at a q e (omega arith) refl)
 
   export-index : a .index ≡ getD (words b) (at + 2) 0
   unfolding encodeExport
-  export-index =
-      sym (stands-at (firstWords b n) (export-codes (firstWords b n) .found at a q e .stands) 2 (omega arith)) ∙ firstWords-at b n (at + 2) export-in
+  export-index = sym (word-held exportOf encodeExport codedExport b n (export-codes (firstWords b n)) at a q e 2 (omega arith) refl)
 
   export-listed : a .kind < 3
   unfolding codedExport

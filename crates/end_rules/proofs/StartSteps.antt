@@ -7,7 +7,7 @@ use native.Mathlib.Omega.{arith}
 use native.Mathlib.Numerals.{add-one}
 use lib.Dec.{eqb}
 use lib.ListN.{length, getD}
-use borrow.Author.Tests.{eq-eqb, eqb-true, lt-ltb, le-ltb}
+use borrow.Author.Tests.{eq-eqb, ne-eqb, lt-ltb, le-ltb}
 use Rattle.blocks.specs.Blocks.{words}
 use Rattle.blocks.specs.Frame.{firstWords}
 use Rattle.blocks.specs.FirstWords.{length-firstWords, firstWords-at}
@@ -20,29 +20,16 @@ use Rattle.error.specs.declared.Judged.the-variants.{Passed}
 use Rattle.error.specs.Answer.{inModule, unless, inRange}
 use Rattle.error.specs.Verdict.{verdictOf, judgedOf, placed}
 use Rattle.error.specs.VerdictLaws.{placed-faults}
-use Rattle.reader.specs.Reader.{got, word}
+use Rattle.reader.specs.Reader.{word}
 use Rattle.reader.specs.ReaderLaws.{stands-in, stands-at, word-codes}
-use Rattle.reader.specs.ValueLaws.{got-whole, list-within}
-use Rattle.index.specs.IndexLaws.{list-fit}
-use Rattle.sheet.specs.Decode.{functionOf, hookOf}
-use Rattle.sheet.specs.Encode.{encodeFunc}
-use Rattle.sheet.specs.Coded.{codedFunc}
-use Rattle.sheet.specs.FuncCodes.{function-codes}
 use Rattle.imports.specs.Params.{sigParams, sigResults}
 use Rattle.code.specs.Callee.{noFunc, funcAt, noCaptures}
 use Rattle.hooks.specs.Hooks.{isStart, startAtFaults, startFaults}
 use Rattle.layout.specs.Opened.{moduleIn}
 use Rattle.opening.specs.declared.Opened.{Opened}
-use Rattle.opening.specs.Ready.{Ready, posAt}
-use Rattle.opening.specs.ReadyLaws.{count-funcs, entry-room, entry-ends, funcs-in}
-use Rattle.end_rules.specs.Ends.{CaptureCounts}
-
-not-eqb : (i k : ℕ) → (i ≡ k → ⊥) → eqb i k ≡ false
-not-eqb i k z = go (eqb i k) refl
-  where
-    go : (x : Bool) → eqb i k ≡ x → eqb i k ≡ false
-    go true e = absurd (z (eqb-true i k e))
-    go false e = e
+use Rattle.opening.specs.Ready.{Ready, posAt, Captured}
+use Rattle.opening.specs.ReadyLaws.{count-funcs, funcs-in}
+use Rattle.opening.specs.MemberLaws.{func-sig}
 
 -- ── a function by number ──
 
@@ -53,47 +40,26 @@ module _ (b w : List ℕ) (o : Opened) (x : Ready (firstWords b (o .layout .word
   inside : f < length (moduleIn ws .funcs)
   inside = funcs-in ws w o x f h
 
-  pub func-room : o .index .funcs + f < length w
-  func-room = entry-room functionOf ws (moduleIn ws .funcs) w (o .index .funcs) (x .funcs) f inside
-
-  -- the signature is the first word of the record
   module _ {p s : ℕ} (e : p ≡ posAt w (o .index .funcs) f) (k : s ≡ getD (words b) p 0) where
-    pub func-sig : s ≡ funcAt (moduleIn ws) f .sig
-    unfolding funcAt encodeFunc
-    func-sig =
-        let g : functionOf ws p ≡ got (getD (moduleIn ws .funcs) f noFunc) (posAt w (o .index .funcs) (f + 1)) =
-        ap (functionOf ws) e ∙ entry-ends functionOf ws (moduleIn ws .funcs) w (o .index .funcs) (x .funcs) noFunc f inside in
-        let st = function-codes ws .found p _ _ g .stands in
-        let l : p < o .layout .words = omega (arith, stands-in ws st, st .end, length-firstWords b (o .layout .words)) in
-        let z : p ≡ p + 0 = omega arith in
-        k ∙ sym (firstWords-at b (o .layout .words) p l) ∙ ap (λ i. getD ws i 0) z ∙ stands-at ws st 0 (omega arith)
+    signed : s ≡ funcAt (moduleIn ws) f .sig
+    unfolding funcAt
+    signed = func-sig b w o x f h noFunc e k
 
     module _ {c : ℕ} (i : c ≡ length (sigParams (moduleIn ws) s)) where
       pub start-both : {d : ℕ} → c ≡ 0 → d ≡ length (sigResults (moduleIn ws) s) → eqb d 0 ≡ isStart (moduleIn ws) (funcAt (moduleIn ws) f)
       unfolding isStart
       start-both {d} z j =
-          let y : length (sigParams (moduleIn ws) (funcAt (moduleIn ws) f .sig)) ≡ 0 = ap (λ t. length (sigParams (moduleIn ws) t)) (sym func-sig) ∙ sym i ∙ z in
-          ap (λ t. eqb t 0) (j ∙ ap (λ t. length (sigResults (moduleIn ws) t)) func-sig)
+          let y : length (sigParams (moduleIn ws) (funcAt (moduleIn ws) f .sig)) ≡ 0 = ap (λ t. length (sigParams (moduleIn ws) t)) (sym signed) ∙ sym i ∙ z in
+          ap (λ t. eqb t 0) (j ∙ ap (λ t. length (sigResults (moduleIn ws) t)) signed)
           ∙ sym (ap (λ t. t && eqb (length (sigResults (moduleIn ws) (funcAt (moduleIn ws) f .sig))) 0) (eq-eqb _ 0 y))
 
       pub start-takes : (c ≡ 0 → ⊥) → false ≡ isStart (moduleIn ws) (funcAt (moduleIn ws) f)
       unfolding isStart
       start-takes z =
-          let y : c ≡ length (sigParams (moduleIn ws) (funcAt (moduleIn ws) f .sig)) = i ∙ ap (λ t. length (sigParams (moduleIn ws) t)) func-sig in
-          sym (ap (λ t. t && eqb (length (sigResults (moduleIn ws) (funcAt (moduleIn ws) f .sig))) 0) (ap (λ t. eqb t 0) (sym y) ∙ not-eqb c 0 z))
+          let y : c ≡ length (sigParams (moduleIn ws) (funcAt (moduleIn ws) f .sig)) = i ∙ ap (λ t. length (sigParams (moduleIn ws) t)) signed in
+          sym (ap (λ t. t && eqb (length (sigResults (moduleIn ws) (funcAt (moduleIn ws) f .sig))) 0) (ap (λ t. eqb t 0) (sym y) ∙ ne-eqb c 0 z))
 
   -- ── what is broken in it ──
-
-  pub captures-room : 4 * o .layout .words + f < length w
-  captures-room = omega (arith, x .room, inside, few)
-    where
-      few : length (moduleIn ws .funcs) ≤ o .layout .words
-      few =
-          omega (
-            arith,
-            list-fit functionOf ws (o .layout .funcs) (moduleIn ws .funcs) (o .layout .hooks) encodeFunc codedFunc (function-codes ws) (λ f. unfold encodeFunc in omega arith) (x .opens .located .funcs),
-            list-within hookOf b (o .layout .words) (o .layout .hooks) (got-whole (x .opens .located .hooks)),
-          )
 
   module _ {s : Bool} (e : s ≡ isStart (moduleIn ws) (funcAt (moduleIn ws) f)) where
     faults : (t u : Bool) {v : Verdict} → isStart (moduleIn ws) (funcAt (moduleIn ws) f) ≡ t → noCaptures (funcAt (moduleIn ws) f) ≡ u
@@ -112,10 +78,10 @@ module _ (b w : List ℕ) (o : Opened) (x : Ready (firstWords b (o .layout .word
     unfolding verdictOf
     bad-start z = faults false (noCaptures (funcAt (moduleIn ws) f)) (sym e ∙ z) refl refl
 
-    module _ {c : ℕ} (y : CaptureCounts ws w o) (k : c ≡ getD w (4 * o .layout .words + f) 0) where
+    module _ {c : ℕ} (y : Captured ws w o) (k : c ≡ getD w (4 * o .layout .words + f) 0) where
       counted : c ≡ length (funcAt (moduleIn ws) f .captures)
       unfolding funcAt
-      counted = k ∙ y .count f noFunc inside
+      counted = k ∙ y .captures f noFunc inside
 
       pub start-holds : s ≡ true → c ≡ 0 → Holds ≡ verdictOf (startAtFaults (moduleIn ws) (f + 1))
       unfolding verdictOf noCaptures
@@ -123,7 +89,7 @@ module _ (b w : List ℕ) (o : Opened) (x : Ready (firstWords b (o .layout .word
 
       pub start-captures : s ≡ true → (c ≡ 0 → ⊥) → Broken CalleeHasCaptures ≡ verdictOf (startAtFaults (moduleIn ws) (f + 1))
       unfolding verdictOf noCaptures
-      start-captures z u = faults true false (sym e ∙ z) (ap (λ i. eqb i 0) (sym counted) ∙ not-eqb c 0 u) refl
+      start-captures z u = faults true false (sym e ∙ z) (ap (λ i. eqb i 0) (sym counted) ∙ ne-eqb c 0 u) refl
 
 pub start-missing : (ws w : List ℕ) (o : Opened) (f : ℕ) → Ready ws w o → o .counts .funcs ≤ f → Broken (OutOfRange Functions f) ≡ verdictOf (startAtFaults (moduleIn ws) (f + 1))
 unfolding startAtFaults verdictOf

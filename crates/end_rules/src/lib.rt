@@ -10,8 +10,8 @@ ghost use Rattle.code.specs.Callee.{funcAt};
 ghost use Rattle.hooks.specs.Hooks.{isStart, startAtFaults, startFaults, exportFaults, exportsFaults};
 ghost use Rattle.layout.specs.Opened.{moduleIn};
 ghost use Rattle.judging.specs.Judging.{listFaults};
-ghost use Rattle.opening.specs.Ready.{Opens, Ready};
-ghost use Rattle.end_rules.specs.Ends.{noExport, CaptureCounts};
+ghost use Rattle.opening.specs.Ready.{Opens, Ready, Captured};
+ghost use Rattle.end_rules.specs.Ends.{noExport};
 use blocks::word;
 use error::FuncId;
 use error::Judged;
@@ -45,7 +45,7 @@ fn is_start(sheet: &[u8], work: &[u32], o: Opened, f: FuncId) -> bool
 // The start function is there, takes and gives nothing, and has no captures.
 fn check_start_function(sheet: &[u8], work: &[u32], o: Opened, f: FuncId) -> Verdict
     requires { ⌜ Ready (firstWords (now sheet) (o .layout .words)) (now work) o ⌝ }
-    requires { ⌜ CaptureCounts (firstWords (now sheet) (o .layout .words)) (now work) o ⌝ }
+    requires { ⌜ Captured (firstWords (now sheet) (o .layout .words)) (now work) o ⌝ }
     ensures { λ r. ⌜ r ≡ verdictOf (startAtFaults (moduleIn (firstWords (now (sheet .entry)) (o .layout .words))) (f .0 + 1)) ⌝ }
 {
     if f.0 < o.counts.funcs {
@@ -63,7 +63,7 @@ fn check_start_function(sheet: &[u8], work: &[u32], o: Opened, f: FuncId) -> Ver
 // The start word is a function's number + 1.
 pub fn check_start(sheet: &[u8], work: &[u32], o: Opened) -> Judged
     requires { ⌜ Ready (firstWords (now sheet) (o .layout .words)) (now work) o ⌝ }
-    requires { ⌜ CaptureCounts (firstWords (now sheet) (o .layout .words)) (now work) o ⌝ }
+    requires { ⌜ Captured (firstWords (now sheet) (o .layout .words)) (now work) o ⌝ }
     ensures { λ r. ⌜ r ≡ judgedOf (startFaults (moduleIn (firstWords (now (sheet .entry)) (o .layout .words)))) ⌝ }
 {
     let start = word(sheet, o.layout.start);

@@ -6,6 +6,7 @@ use lib.ListN.{length, getD}
 use Rattle.blocks.specs.Blocks.{words}
 use Rattle.blocks.specs.Frame.{firstWords}
 use Rattle.reader.specs.Value.{Whole, valueOf}
+use Rattle.reader.specs.SizeLaws.{list-count}
 use Rattle.error.specs.declared.FuncId.{FuncId}
 use Rattle.sheet.specs.Module.{Func}
 use Rattle.sheet.specs.Decode.{functionOf}
@@ -16,7 +17,6 @@ use Rattle.opening.specs.ReadyLaws.{funcs-in, entry-room, entry-whole, entry-va
 use Rattle.code.specs.Callee.{noFunc, funcAt}
 use Rattle.bodies.specs.declared.Body.{Body}
 use Rattle.bodies.specs.Bodies.{Placed}
-use Rattle.bodies.specs.BodyLaws.{list-count}
 use Rattle.frames.specs.Frames.{funcOf, Framed}
 
 -- ── function f by its number ──

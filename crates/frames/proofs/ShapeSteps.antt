@@ -10,6 +10,7 @@ use Rattle.blocks.specs.Blocks.{words}
 use Rattle.blocks.specs.Frame.{firstWords}
 use Rattle.reader.specs.Reader.{Got, got, andThen, Reader, word, many, listOf}
 use Rattle.reader.specs.ReaderLaws.{stands-in, then-inv, word-codes}
+use Rattle.reader.specs.SizeLaws.{list-count}
 use Rattle.sheet.specs.Decode.{argOf}
 use Rattle.sheet.specs.Encode.{encodeArg}
 use Rattle.sheet.specs.FuncCodes.{args-codes, shapes-codes}
@@ -21,7 +22,6 @@ use Rattle.region.specs.Region as region
 use Rattle.region.specs.RegionLaws.{frame-refl, fill-more}
 use Rattle.opening.specs.declared.Opened.{Opened}
 use Rattle.opening.specs.Ready.{Ready}
-use Rattle.bodies.specs.BodyLaws.{list-count}
 use Rattle.frames.specs.declared.Frame.{Frame}
 use Rattle.frames.specs.Frames.{funcOf, Framed, Shaped}
 

@@ -26,10 +26,6 @@ pub record Framed (ws : List ℕ) (c : Frame) : Type 0 where
   pub tables : c .tables ≡ length (funcOf ws c .tables)
   pub code : c .code ≡ length (funcOf ws c .code)
 
--- word 4 * words + f is how many captures function f has
-pub record Captured (ws w : List ℕ) (o : Opened) : Type 0 where
-  pub captures : (f : ℕ) → f < length (moduleIn ws .funcs) → getD w (4 * o .layout .words + f) 0 ≡ length (funcAt (moduleIn ws) f .captures)
-
 -- word 7 * words + k is the length of call shape k
 pub record Shaped (ws w : List ℕ) (o : Opened) (c : Frame) : Type 0 where
   pub lengths : (k : ℕ) → k < length (funcOf ws c .shapes) → getD w (7 * o .layout .words + k) 0 ≡ length (getD (funcOf ws c .shapes) k [])

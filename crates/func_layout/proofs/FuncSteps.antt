@@ -10,11 +10,11 @@ use Rattle.blocks.specs.Blocks.{words}
 use Rattle.blocks.specs.Frame.{firstWords}
 use Rattle.reader.specs.declared.Step.{Step}
 use Rattle.reader.specs.declared.Step.the-variants.{Next, Broken}
-use Rattle.reader.specs.Reader.{Got, broken, got, Reader, andThen, _>>=_, pure, fail, word, many, listOf}
+use Rattle.reader.specs.Reader.{Got, broken, got, Reader, andThen, fail, word, many, listOf}
 use Rattle.reader.specs.Step.{stepOf}
 use Rattle.reader.specs.StepLaws.{word-read, word-none, arrived, stuck, make}
 use Rattle.reader.specs.AlikeLaws.{two-on, ends-alike, then-alike, into-alike}
-use Rattle.reader.specs.RecordSteps.{Sized, sized-next, sized-end, sized-word, sized-list, lists-alike}
+use Rattle.reader.specs.RecordSteps.{sized-word, sized-list}
 use Rattle.sheet_reader.specs.declared.Taken.{Taken}
 use Rattle.sheet_reader.specs.declared.Taken.the-variants.{Word}
 use Rattle.sheet_reader.specs.declared.Taken.the-variants as taken
@@ -22,19 +22,8 @@ use Rattle.sheet_reader.specs.Taken.{takenOf}
 use Rattle.sheet_reader.specs.TakenLaws.{word-taken, none-taken}
 use Rattle.sheet.specs.Module.{ValueType, Arg, Handler, Switch, Inst, opcode}
 use Rattle.sheet.specs.Decode.{valueType, paramList, argOf, handlerOf, switchOf, knownCode, instOf, functionOf}
+use Rattle.sheet.specs.SizeLaws.{handler-sized, shapes-alike}
 use Rattle.func_layout.specs.Halves.{frameHalf, bodyOf, codeHalf}
-
-arg-sized : Sized argOf 2
-unfolding argOf
-arg-sized = sized-next (λ k. word >>= (λ a. pure (record { kind = k; name = a }))) λ k. sized-next (λ a. pure (record { kind = k; name = a })) λ a. sized-end _
-
-handler-sized : Sized handlerOf 4
-unfolding handlerOf
-handler-sized =
-    sized-next (λ s. word >>= (λ e. word >>= (λ t. word >>= (λ c. pure (record { start = s; end = e; target = t; catch = c }))))) λ s.
-    sized-next (λ e. word >>= (λ t. word >>= (λ c. pure (record { start = s; end = e; target = t; catch = c })))) λ e.
-    sized-next (λ t. word >>= (λ c. pure (record { start = s; end = e; target = t; catch = c }))) λ t.
-    sized-next (λ c. pure (record { start = s; end = e; target = t; catch = c })) λ c. sized-end _
 
 -- ── jump tables ──
 
@@ -71,9 +60,6 @@ unfolding instOf stepOf
 inst-past bytes n at h = rw (word-none bytes n at h)
 
 -- ── the halves ──
-
-shapes-alike : (ws : List ℕ) (p : ℕ) {r : Step} → r ≡ stepOf (listOf (listOf (many 2 word)) ws p) → r ≡ stepOf (listOf (listOf argOf) ws p)
-shapes-alike ws p e = e ∙ lists-alike (listOf (many 2 word)) (listOf argOf) ws (λ q. sized-list arg-sized ws q refl) p
 
 module _ (bytes : List ℕ) (n at : ℕ) where
   pub frame-next : (p₁ p₂ p₃ : ℕ) {r₁ r₂ r₃ x : Step} → at < n → r₁ ≡ Next p₁ → r₁ ≡ stepOf (listOf valueType (firstWords bytes n) (at + 1)) →

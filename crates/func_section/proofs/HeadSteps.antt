@@ -20,12 +20,12 @@ use Rattle.opening.specs.Ready.{Ready, posAt}
 use Rattle.opening.specs.ReadyLaws.{types-inside, type-canon}
 use Rattle.table.specs.Records.{canonWords}
 use Rattle.writing.specs.Writing.{written}
+use Rattle.writing.specs.WritingLaws.{join-first, join-room, join-written, join-place}
 use Rattle.frames.specs.declared.Frame.{Frame}
 use Rattle.frames.specs.Frames.{funcOf}
 use Rattle.value_lists.specs.Values.{valuesAt, Values}
 use Rattle.value_lists.specs.ValuesLaws.{values-list, values-length, list-values}
 use Rattle.func_section.specs.FuncWords.{countWords, headWords, Sound}
-use Rattle.func_section.proofs.Joining.{join-first, join-room, join-written, join-place}
 use Rattle.func_section.proofs.Rules.{clean}
 use Rattle.func_section.proofs.Results.{sig-has}
 

@@ -1,4 +1,3 @@
-pub mod Joining
 pub mod Rules
 pub mod Results
 pub mod HeadSteps

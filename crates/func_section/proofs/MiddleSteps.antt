@@ -16,12 +16,12 @@ use Rattle.imports.specs.Params.{sigResults}
 use Rattle.layout.specs.Opened.{moduleIn}
 use Rattle.table.specs.Records.{canonWords, references, resultWord}
 use Rattle.writing.specs.Writing.{written}
+use Rattle.writing.specs.WritingLaws.{join-first, join-room, join-written, join-place}
 use Rattle.frames.specs.declared.Frame.{Frame}
 use Rattle.frames.specs.Frames.{funcOf}
 use Rattle.value_lists.specs.Values.{valuesAt, Values, Present}
 use Rattle.value_lists.specs.ValuesLaws.{values-present}
 use Rattle.func_section.specs.FuncWords.{middleWords, Sound}
-use Rattle.func_section.proofs.Joining.{join-first, join-room, join-written, join-place}
 use Rattle.func_section.proofs.Rules.{clean}
 use Rattle.func_section.proofs.HeadSteps.{regs-good, list-is, list-good, list-words, list-length}
 

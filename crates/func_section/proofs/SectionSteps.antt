@@ -22,11 +22,10 @@ use Rattle.funcs.specs.Funcs.{funcFaults, funcsFaults}
 use Rattle.code.specs.Callee.{noFunc, funcAt}
 use Rattle.table.specs.Records.{canonWords, references, resultWord, catchTable, funcRecord}
 use Rattle.writing.specs.Writing.{written, wordsOf, Writes}
-use Rattle.writing.specs.WritingLaws.{written-then, written-length, words-are, writes-start, writes-next, writes-end, writes-place, writes-length, writes-room}
+use Rattle.writing.specs.WritingLaws.{written-then, written-length, words-are, writes-start, writes-next, writes-end, writes-place, writes-length, writes-room, join-first, join-room, join-written, join-place}
 use Rattle.frames.specs.declared.Frame.{Frame}
 use Rattle.frames.specs.Frames.{funcOf, Framed}
 use Rattle.func_section.specs.FuncWords.{countWords, headWords, middleWords, tailWords, Sound}
-use Rattle.func_section.proofs.Joining.{join-first, join-room, join-written, join-place}
 
 -- ── one function ──
 

@@ -16,10 +16,10 @@ use Rattle.layout.specs.Opened.{moduleIn}
 use Rattle.judging.specs.Judging.{listFaults}
 use Rattle.table.specs.Records.{catchTable}
 use Rattle.writing.specs.Writing.{written}
+use Rattle.writing.specs.WritingLaws.{join-first, join-room, join-written, join-place}
 use Rattle.frames.specs.declared.Frame.{Frame}
 use Rattle.frames.specs.Frames.{funcOf, Framed}
 use Rattle.func_section.specs.FuncWords.{tailWords, Sound}
-use Rattle.func_section.proofs.Joining.{join-first, join-room, join-written, join-place}
 use Rattle.func_section.proofs.Rules.{clean}
 
 module _ (ws : List ℕ) (c : Frame) (x : Sound ws c) where

@@ -1,13 +1,12 @@
 -- Globals judged word by word.
 use Prim.Native.Nat.{ℕ, suc, _+_, _-_, _<_}
-use mathlib.Core.Path.{_≡_, sym, ap, _∙_}
+use mathlib.Core.Path.{_≡_, refl, sym, ap, _∙_}
 use mathlib.Core.List.{List, []}
 use native.Mathlib.Omega.{arith}
 use lib.ListN.{getD}
 use Rattle.lists.specs.Lists.{concatMap}
 use Rattle.blocks.specs.Blocks.{words}
 use Rattle.blocks.specs.Frame.{firstWords}
-use Rattle.blocks.specs.FirstWords.{length-firstWords, firstWords-at}
 use Rattle.error.specs.declared.What.the-variants.{Constants}
 use Rattle.error.specs.declared.LoadErrorKind.{LoadErrorKind}
 use Rattle.error.specs.declared.Verdict.{Verdict}
@@ -17,9 +16,10 @@ use Rattle.error.specs.Answer.{inModule, inRange}
 use Rattle.error.specs.Verdict.{verdictOf, judgedOf, placed}
 use Rattle.error.specs.VerdictLaws.{verdict-then, verdict-stop, placed-faults}
 use Rattle.reader.specs.Reader.{got, word, listOf}
-use Rattle.reader.specs.ReaderLaws.{stands-in, stands-at, then-inv}
+use Rattle.reader.specs.ReaderLaws.{then-inv}
 use Rattle.reader.specs.Value.{Whole, valueOf}
 use Rattle.reader.specs.ValueLaws.{whole-inv, got-whole, value-got}
+use Rattle.reader.specs.SizeLaws.{word-within, word-held}
 use Rattle.sheet.specs.Module.{ValueType, dyn, Global}
 use Rattle.sheet.specs.Decode.{valueType, globalOf}
 use Rattle.sheet.specs.Encode.{encodeValue, encodeGlobal}
@@ -42,14 +42,11 @@ module _ (b : List ℕ) (n at : ℕ) {a : Global} {q : ℕ} (e : globalOf (first
 
   global-in : at + 1 < n
   unfolding encodeGlobal encodeValue
-  global-in =
-      let s = global-codes (firstWords b n) .found at a q e .stands in
-      omega (arith, stands-in (firstWords b n) s, s .end, length-firstWords b n)
+  global-in = word-within globalOf encodeGlobal _ b n (global-codes (firstWords b n)) at a q e 1 (omega arith)
 
   global-init : a .init+ ≡ getD (words b) (at + 1) 0
   unfolding encodeGlobal encodeValue
-  global-init =
-      sym (stands-at (firstWords b n) (global-codes (firstWords b n) .found at a q e .stands) 1 (omega arith)) ∙ firstWords-at b n (at + 1) global-in
+  global-init = sym (word-held globalOf encodeGlobal _ b n (global-codes (firstWords b n)) at a q e 1 (omega arith) refl)
 
   -- its value type stands first
   global-type : {C : Type 0} → ((p : ℕ) → valueType (firstWords b n) at ≡ got (a .type) p → C) → C

@@ -6,7 +6,7 @@ use mathlib.Core.Bool.{Bool, true, false, _&&_}
 use native.Mathlib.Omega.{arith}
 use lib.Dec.{eqb}
 use lib.ListN.{length}
-use borrow.Author.Tests.{eq-eqb, eqb-true}
+use borrow.Author.Tests.{eq-eqb, ne-eqb}
 use Rattle.lists.specs.Lists.{all}
 use Rattle.reader.specs.Reader.{listOf}
 use Rattle.reader.specs.Value.{valueOf}
@@ -20,13 +20,6 @@ use Rattle.hook_shapes.specs.Shapes.{shape}
 use Rattle.signatures.specs.Signature.{HasSig}
 use Rattle.signatures.specs.SignatureLaws.{params-sig, results-sig}
 use Rattle.hook_rules.specs.Bindings.{paramsFit}
-
-pub not-eqb : (i k : ℕ) → (i ≡ k → ⊥) → eqb i k ≡ false
-not-eqb i k z = go (eqb i k) refl
-  where
-    go : (x : Bool) → eqb i k ≡ x → eqb i k ≡ false
-    go true e = absurd (z (eqb-true i k e))
-    go false e = e
 
 -- ── parameters ──
 
@@ -51,7 +44,7 @@ module _ (m : Module) (t n : ℕ) {c : ℕ} (e : c ≡ length (sigParams m t)) w
 
   pub params-other : (c ≡ n → ⊥) → false ≡ paramsFit n (sigParams m t)
   unfolding paramsFit
-  params-other z = sym (ap (λ i. i && all isDyn (sigParams m t)) (ap (λ l. eqb l n) (sym e) ∙ not-eqb c n z))
+  params-other z = sym (ap (λ i. i && all isDyn (sigParams m t)) (ap (λ l. eqb l n) (sym e) ∙ ne-eqb c n z))
 
 -- ── the result ──
 

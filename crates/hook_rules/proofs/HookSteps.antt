@@ -4,14 +4,12 @@ use mathlib.Core.Path.{_≡_, sym, ap, ap₂, _∙_}
 use mathlib.Core.List.{List, []}
 use mathlib.Core.Bool.{Bool, true, false, cond}
 use native.Mathlib.Omega.{arith}
-use lib.Dec.{eqb, ltb}
+use lib.Dec.{eqb}
 use lib.ListN.{getD}
-use borrow.Author.Tests.{ltb-true, eq-eqb}
+use borrow.Author.Tests.{eq-eqb, ne-eqb}
 use Rattle.lists.specs.Lists.{concatMap}
-use Rattle.lists.specs.ListLaws.{and-first}
 use Rattle.blocks.specs.Blocks.{words}
 use Rattle.blocks.specs.Frame.{firstWords}
-use Rattle.blocks.specs.FirstWords.{length-firstWords, firstWords-at}
 use Rattle.error.specs.declared.LoadErrorKind.{LoadErrorKind}
 use Rattle.error.specs.declared.Verdict.{Verdict}
 use Rattle.error.specs.declared.Verdict.the-variants.{Holds}
@@ -19,56 +17,18 @@ use Rattle.error.specs.declared.Judged.{Judged}
 use Rattle.error.specs.Answer.{inModule}
 use Rattle.error.specs.Verdict.{verdictOf, judgedOf, placed}
 use Rattle.error.specs.VerdictLaws.{placed-faults}
-use Rattle.reader.specs.Reader.{got, listOf}
-use Rattle.reader.specs.ReaderLaws.{stands-in, stands-at}
+use Rattle.reader.specs.Reader.{listOf}
 use Rattle.reader.specs.Value.{Whole, valueOf}
 use Rattle.reader.specs.ValueLaws.{whole-inv, got-whole, value-got}
 use Rattle.sheet.specs.Module.{Hook, Module}
 use Rattle.sheet.specs.Decode.{hookOf}
-use Rattle.sheet.specs.Encode.{encodeHook}
-use Rattle.sheet.specs.Coded.{codedHook}
-use Rattle.sheet.specs.ModuleCodes.{hook-codes}
 use Rattle.hooks.specs.Hooks.{hookFunctionFaults, hookImportFaults, hookFaults, hooksFaults}
+use Rattle.hooks.specs.HookLaws.{hook-end, hook-in, hook-number, hook-kind, hook-index, hook-known}
 use Rattle.layout.specs.Opened.{moduleIn}
 use Rattle.opening.specs.declared.Opened.{Opened}
 use Rattle.opening.specs.Ready.{Ready}
 use Rattle.judging.specs.Judging.{Judges, listFaults, judges-next}
 use Rattle.hook_rules.specs.Bindings.{noHook}
-use Rattle.hook_rules.proofs.FitSteps.{not-eqb}
-
--- ── a binding that was read ──
-
-module _ (b : List ℕ) (n at : ℕ) {a : Hook} {q : ℕ} (e : hookOf (firstWords b n) at ≡ got a q) where
-  hook-end : q ≡ at + 3
-  unfolding encodeHook
-  hook-end = hook-codes (firstWords b n) .found at a q e .stands .end
-
-  hook-in : at + 2 < n
-  unfolding encodeHook
-  hook-in =
-      let s = hook-codes (firstWords b n) .found at a q e .stands in
-      omega (arith, stands-in (firstWords b n) s, s .end, length-firstWords b n)
-
-  hook-hook : a .hook ≡ getD (words b) at 0
-  unfolding encodeHook
-  hook-hook =
-      let z : at + 0 ≡ at = omega arith in
-      sym (stands-at (firstWords b n) (hook-codes (firstWords b n) .found at a q e .stands) 0 (omega arith))
-      ∙ ap (λ k. getD (firstWords b n) k 0) z ∙ firstWords-at b n at (omega (arith, hook-in))
-
-  hook-kind : a .kind ≡ getD (words b) (at + 1) 0
-  unfolding encodeHook
-  hook-kind =
-      sym (stands-at (firstWords b n) (hook-codes (firstWords b n) .found at a q e .stands) 1 (omega arith)) ∙ firstWords-at b n (at + 1) (omega (arith, hook-in))
-
-  hook-index : a .index ≡ getD (words b) (at + 2) 0
-  unfolding encodeHook
-  hook-index =
-      sym (stands-at (firstWords b n) (hook-codes (firstWords b n) .found at a q e .stands) 2 (omega arith)) ∙ firstWords-at b n (at + 2) hook-in
-
-  hook-known : a .hook < 31
-  unfolding codedHook
-  hook-known = ltb-true (a .hook) 31 (and-first (ltb (a .hook) 31) (ltb (a .kind) 2) (hook-codes (firstWords b n) .found at a q e .fine))
 
 -- ── one binding ──
 
@@ -77,22 +37,22 @@ module _ (b : List ℕ) (n at : ℕ) (h : Whole (hookOf (firstWords b n) at)) wh
   hook-within = whole-inv (hookOf (firstWords b n) at) h λ a q e. hook-in b n at e
 
   pub hook-listed : {k : ℕ} → k ≡ getD (words b) at 0 → k < 31
-  hook-listed l = whole-inv (hookOf (firstWords b n) at) h λ a q e. omega (arith, hook-known b n at e, hook-hook b n at e, l)
+  hook-listed l = whole-inv (hookOf (firstWords b n) at) h λ a q e. omega (arith, hook-known b n at e, hook-number b n at e, l)
 
   module _ (m : Module) {k c i : ℕ} {r : Verdict} (u : k ≡ getD (words b) at 0) (v : c ≡ getD (words b) (at + 1) 0) (w : i ≡ getD (words b) (at + 2) 0) where
     told : (x : Bool) → eqb c 0 ≡ x → r ≡ verdictOf (cond x (hookFunctionFaults m k i) (hookImportFaults m k i))
         → r ≡ verdictOf (hookFaults m (valueOf noHook (hookOf (firstWords b n) at)))
     unfolding hookFaults
     told x z f = whole-inv (hookOf (firstWords b n) at) h λ a q g.
-        f ∙ ap (λ y. verdictOf (cond y (hookFunctionFaults m k i) (hookImportFaults m k i))) (sym z ∙ ap (λ j. eqb j 0) (v ∙ sym (hook-kind b n at g)))
-        ∙ ap₂ (λ k i. verdictOf (cond (eqb (a .kind) 0) (hookFunctionFaults m k i) (hookImportFaults m k i))) (u ∙ sym (hook-hook b n at g)) (w ∙ sym (hook-index b n at g))
+        f ∙ ap (λ y. verdictOf (cond y (hookFunctionFaults m k i) (hookImportFaults m k i))) (sym z ∙ ap (λ j. eqb j 0) (v ∙ hook-kind b n at g))
+        ∙ ap₂ (λ k i. verdictOf (cond (eqb (a .kind) 0) (hookFunctionFaults m k i) (hookImportFaults m k i))) (u ∙ hook-number b n at g) (w ∙ hook-index b n at g)
         ∙ ap (λ y. verdictOf (hookFaults m y)) (sym (value-got noHook g))
 
     pub hook-function : c ≡ 0 → r ≡ verdictOf (hookFunctionFaults m k i) → r ≡ verdictOf (hookFaults m (valueOf noHook (hookOf (firstWords b n) at)))
     hook-function z f = told true (eq-eqb c 0 z) f
 
     pub hook-import : (c ≡ 0 → ⊥) → r ≡ verdictOf (hookImportFaults m k i) → r ≡ verdictOf (hookFaults m (valueOf noHook (hookOf (firstWords b n) at)))
-    hook-import z f = told false (not-eqb c 0 z) f
+    hook-import z f = told false (ne-eqb c 0 z) f
 
 -- ── all bindings ──
 

@@ -10,8 +10,7 @@ ghost use Rattle.imports.specs.Params.{sigParams, sigResults};
 ghost use Rattle.hooks.specs.Hooks.{hookShape, resultFits, hookFits, hookFunctionFaults, hookImportFaults, hookFaults, hooksFaults};
 ghost use Rattle.layout.specs.Opened.{moduleIn};
 ghost use Rattle.judging.specs.Judging.{listFaults};
-ghost use Rattle.opening.specs.Ready.{Ready};
-ghost use Rattle.end_rules.specs.Ends.{CaptureCounts};
+ghost use Rattle.opening.specs.Ready.{Ready, Captured};
 ghost use Rattle.hook_rules.specs.Bindings.{noHook, paramsFit, functionFits, importFits};
 use blocks::word;
 use error::FuncId;
@@ -81,7 +80,7 @@ fn hook_fits(sheet: &[u8], work: &[u32], o: Opened, t: TypeId, h: u32) -> bool
 // Function f has no captures, and its signature fits.
 fn function_fits(sheet: &[u8], work: &[u32], o: Opened, h: u32, f: FuncId) -> bool
     requires { ⌜ Ready (firstWords (now sheet) (o .layout .words)) (now work) o ⌝ }
-    requires { ⌜ CaptureCounts (firstWords (now sheet) (o .layout .words)) (now work) o ⌝ }
+    requires { ⌜ Captured (firstWords (now sheet) (o .layout .words)) (now work) o ⌝ }
     requires { ⌜ h < 31 ⌝ }
     requires { ⌜ f .0 < o .counts .funcs ⌝ }
     ensures { λ r. ⌜ r ≡ functionFits (moduleIn (firstWords (now (sheet .entry)) (o .layout .words))) h (f .0) ⌝ }
@@ -107,7 +106,7 @@ fn import_fits(sheet: &[u8], work: &[u32], o: Opened, h: u32, i: u32) -> bool
 // Hook h is bound to function f.
 fn check_bound_function(sheet: &[u8], work: &[u32], o: Opened, h: u32, f: FuncId) -> Verdict
     requires { ⌜ Ready (firstWords (now sheet) (o .layout .words)) (now work) o ⌝ }
-    requires { ⌜ CaptureCounts (firstWords (now sheet) (o .layout .words)) (now work) o ⌝ }
+    requires { ⌜ Captured (firstWords (now sheet) (o .layout .words)) (now work) o ⌝ }
     requires { ⌜ h < 31 ⌝ }
     ensures { λ r. ⌜ r ≡ verdictOf (hookFunctionFaults (moduleIn (firstWords (now (sheet .entry)) (o .layout .words))) h (f .0)) ⌝ }
 {
@@ -138,7 +137,7 @@ fn check_bound_import(sheet: &[u8], work: &[u32], o: Opened, h: u32, i: u32) -> 
 // A binding is a hook, whether it is to an import, and the number.
 fn check_hook(sheet: &[u8], work: &[u32], o: Opened, at: usize) -> Verdict
     requires { ⌜ Ready (firstWords (now sheet) (o .layout .words)) (now work) o ⌝ }
-    requires { ⌜ CaptureCounts (firstWords (now sheet) (o .layout .words)) (now work) o ⌝ }
+    requires { ⌜ Captured (firstWords (now sheet) (o .layout .words)) (now work) o ⌝ }
     requires { ⌜ Whole (hookOf (firstWords (now sheet) (o .layout .words)) at) ⌝ }
     ensures { λ r. ⌜ r ≡ verdictOf (hookFaults (moduleIn (firstWords (now (sheet .entry)) (o .layout .words))) (valueOf noHook (hookOf (firstWords (now (sheet .entry)) (o .layout .words)) at))) ⌝ }
 {
@@ -154,7 +153,7 @@ fn check_hook(sheet: &[u8], work: &[u32], o: Opened, at: usize) -> Verdict
 // Bindings in order, three words each.
 fn check_each_hook(sheet: &[u8], work: &[u32], o: Opened) -> Verdict
     requires { ⌜ Ready (firstWords (now sheet) (o .layout .words)) (now work) o ⌝ }
-    requires { ⌜ CaptureCounts (firstWords (now sheet) (o .layout .words)) (now work) o ⌝ }
+    requires { ⌜ Captured (firstWords (now sheet) (o .layout .words)) (now work) o ⌝ }
     ensures { λ r. ⌜ r ≡ verdictOf (listFaults (hookFaults (moduleIn (firstWords (now (sheet .entry)) (o .layout .words)))) (listOf hookOf (firstWords (now (sheet .entry)) (o .layout .words)) (o .layout .hooks))) ⌝ }
 {
     let from = o.layout.hooks;
@@ -175,7 +174,7 @@ fn check_each_hook(sheet: &[u8], work: &[u32], o: Opened) -> Verdict
 
 pub fn check_hooks(sheet: &[u8], work: &[u32], o: Opened) -> Judged
     requires { ⌜ Ready (firstWords (now sheet) (o .layout .words)) (now work) o ⌝ }
-    requires { ⌜ CaptureCounts (firstWords (now sheet) (o .layout .words)) (now work) o ⌝ }
+    requires { ⌜ Captured (firstWords (now sheet) (o .layout .words)) (now work) o ⌝ }
     ensures { λ r. ⌜ r ≡ judgedOf (hooksFaults (moduleIn (firstWords (now (sheet .entry)) (o .layout .words)))) ⌝ }
 {
     in_module(check_each_hook(sheet, work, o))

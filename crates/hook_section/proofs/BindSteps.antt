@@ -5,7 +5,7 @@ use mathlib.Core.List.{List, [], _∷_, map}
 use mathlib.Core.Bool.{Bool, true, false, cond}
 use native.Mathlib.Omega.{arith}
 use native.Mathlib.Nat.{zero-add}
-use lib.Dec.{eqb, ltb}
+use lib.Dec.{eqb}
 use lib.ListN.{length, getD, set}
 use lib.Seq.{getD-set-same, getD-set-other}
 use borrow.Author.Tests.{ltb-true, eqb-true, eqb-false}
@@ -13,16 +13,11 @@ use Rattle.lists.specs.Lists.{all, from}
 use Rattle.lists.specs.ListLaws.{and-first, and-second, getD-map-from}
 use Rattle.blocks.specs.Blocks.{words}
 use Rattle.blocks.specs.Frame.{firstWords}
-use Rattle.blocks.specs.FirstWords.{length-firstWords, firstWords-at}
 use Rattle.reader.specs.Reader.{got, many, listOf}
-use Rattle.reader.specs.ReaderLaws.{stands-in, stands-at}
 use Rattle.reader.specs.Value.{Whole, valueOf}
 use Rattle.reader.specs.ValueLaws.{got-whole, value-got, list-within, list-whole, list-value, many-first}
 use Rattle.sheet.specs.Module.{Hook, Module}
 use Rattle.sheet.specs.Decode.{hookOf}
-use Rattle.sheet.specs.Encode.{encodeHook}
-use Rattle.sheet.specs.Coded.{codedHook}
-use Rattle.sheet.specs.ModuleCodes.{hook-codes}
 use Rattle.layout.specs.Opened.{moduleIn}
 use Rattle.region.specs.Region.{Off, Frame}
 use Rattle.region.specs.RegionLaws.{frame-refl, frame-then, frame-set}
@@ -33,38 +28,16 @@ use Rattle.writing.specs.WritingLaws.{written-length, written-by}
 use Rattle.table.specs.Records.{bindingWord, hookWord}
 use Rattle.table.specs.Table.{hookSection}
 use Rattle.plain_sections.specs.Sections.{bindingFits, BindingsFit}
+use Rattle.hooks.specs.HookLaws.{hook-end, hook-in, hook-number, hook-kind, hook-index, hook-known}
 use Rattle.hook_section.specs.Bound.{boundWord, BindingAt}
 use Rattle.plain_sections.proofs.RowSteps.{counted-all}
 
 -- ── a binding that was read ──
 
 module _ (b : List ℕ) (n at : ℕ) {a : Hook} {q : ℕ} (e : hookOf (firstWords b n) at ≡ got a q) where
-  hook-end : q ≡ at + 3
-  unfolding encodeHook
-  hook-end = hook-codes (firstWords b n) .found at a q e .stands .end
-
-  hook-in : at + 2 < n
-  unfolding encodeHook
-  hook-in =
-      let s = hook-codes (firstWords b n) .found at a q e .stands in
-      omega (arith, stands-in (firstWords b n) s, s .end, length-firstWords b n)
-
-  hook-word : (j : ℕ) → j < 3 → getD (words b) (at + j) 0 ≡ getD (encodeHook a) j 0
-  unfolding encodeHook
-  hook-word j h =
-      sym (firstWords-at b n (at + j) (omega (arith, hook-in))) ∙ stands-at (firstWords b n) (hook-codes (firstWords b n) .found at a q e .stands) j (omega arith)
-
-  hook-number : getD (words b) at 0 ≡ a .hook
-  unfolding encodeHook
-  hook-number = let z : at ≡ at + 0 = omega arith in ap (λ k. getD (words b) k 0) z ∙ hook-word 0 (omega arith)
-
-  hook-known : a .hook < 31
-  unfolding codedHook
-  hook-known = ltb-true (a .hook) 31 (and-first (ltb (a .hook) 31) (ltb (a .kind) 2) (hook-codes (firstWords b n) .found at a q e .fine))
-
   hook-bound : boundWord b at ≡ bindingWord a
-  unfolding boundWord bindingWord encodeHook
-  hook-bound = omega (arith, hook-word 1 (omega arith), hook-word 2 (omega arith))
+  unfolding boundWord bindingWord
+  hook-bound = omega (arith, hook-kind b n at e, hook-index b n at e)
 
 -- ── the loop ──
 

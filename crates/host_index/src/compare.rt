@@ -1,7 +1,6 @@
 // The order of strings and of pairs, by their words.
 ghost use mathlib.Core.Path.{_≡_};
-ghost use Prim.Native.Nat.{_≤_, _<_};
-ghost use lib.ListN.{length};
+ghost use Prim.Native.Nat.{_<_};
 ghost use Rattle.blocks.specs.Frame.{firstWords};
 ghost use Rattle.reader.specs.Text.{string};
 ghost use Rattle.reader.specs.Value.{Whole};
@@ -9,49 +8,11 @@ ghost use Rattle.host.specs.Listed.{textAt};
 ghost use Rattle.host_index.specs.Sorted.{entryCount, Edged};
 ghost use Rattle.host_index.specs.PairOrder.{pairOrder};
 ghost use Rattle.host_index.specs.EdgedLaws.{entryOf};
-ghost use Rattle.host_index.specs.RangeOrder.{rangeOrder, textOrder};
-use blocks::word;
+ghost use Rattle.host_index.specs.RangeOrder.{textOrder};
 use host::strings::end_of;
 use region::at;
 use sorting::Ordering;
-
-// The order of the words from a up to a_end of one, which has n, and from b up to b_end of the other, which has m.
-fn compare_ranges(
-    one: &[u8],
-    n: usize,
-    a: usize,
-    a_end: usize,
-    other: &[u8],
-    m: usize,
-    b: usize,
-    b_end: usize,
-) -> Ordering
-    requires { ⌜ (a ≤ «a_end») × («a_end» ≤ n) × (b ≤ «b_end») × («b_end» ≤ m) ⌝ }
-    ensures { λ r. ⌜ r ≡ rangeOrder (firstWords (now (one .entry)) n) a «a_end» (firstWords (now (other .entry)) m) b «b_end» ⌝ }
-{
-    let mut i = a;
-    let mut j = b;
-    while i < a_end {
-        if b_end <= j {
-            return Ordering::Greater;
-        }
-        let x = word(one, i);
-        let y = word(other, j);
-        if x < y {
-            return Ordering::Less;
-        }
-        if y < x {
-            return Ordering::Greater;
-        }
-        i += 1;
-        j += 1;
-    }
-    if j < b_end {
-        Ordering::Less
-    } else {
-        Ordering::Equal
-    }
-}
+use sorting::contents::compare_words;
 
 // The order of two strings: by length, then by words.
 fn compare_strings(one: &[u8], n: usize, p: usize, other: &[u8], m: usize, q: usize) -> Ordering
@@ -61,7 +22,7 @@ fn compare_strings(one: &[u8], n: usize, p: usize, other: &[u8], m: usize, q: us
 {
     let p_end = end_of(one, n, p);
     let q_end = end_of(other, m, q);
-    compare_ranges(one, n, p, p_end, other, m, q, q_end)
+    compare_words(one, n, p, p_end, other, m, q, q_end)
 }
 
 // How the module and the name that stand in the sheet, of `words` words, compare with those of an entry.

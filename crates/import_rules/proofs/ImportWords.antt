@@ -4,23 +4,21 @@ use mathlib.Core.Path.{_≡_, sym, ap, _∙_}
 use mathlib.Core.List.{List}
 use mathlib.Core.Option.{none}
 use native.Mathlib.Omega.{arith}
-use lib.ListN.{length, getD}
+use lib.ListN.{getD}
 use Rattle.blocks.specs.Blocks.{words}
 use Rattle.blocks.specs.Frame.{firstWords}
-use Rattle.blocks.specs.FirstWords.{length-firstWords, firstWords-at}
 use Rattle.reader.specs.Reader.{got, word}
-use Rattle.reader.specs.ReaderLaws.{stands-in, stands-at, then-inv, word-codes}
+use Rattle.reader.specs.ReaderLaws.{then-inv, word-codes}
 use Rattle.reader.specs.Value.{Whole, valueOf}
 use Rattle.reader.specs.ValueLaws.{got-whole, value-got}
 use Rattle.sheet.specs.Module.{ParamList, Import}
 use Rattle.sheet.specs.Decode.{paramList, importOf}
 use Rattle.sheet.specs.Encode.{encodeImport}
-use Rattle.sheet.specs.FuncCodes.{import-codes}
 use Rattle.code.specs.Callee.{noImport, importAt}
 use Rattle.layout.specs.Opened.{moduleIn}
 use Rattle.opening.specs.declared.Opened.{Opened}
 use Rattle.opening.specs.Ready.{Ready, posAt}
-use Rattle.opening.specs.ReadyLaws.{entry-room, entry-ends, imports-in}
+use Rattle.opening.specs.MemberLaws.{import-stands, import-word, import-sig}
 
 -- the parameter list stands after three words
 module _ (ws : List ℕ) (p : ℕ) {a : Import} {q : ℕ} (e : importOf ws p ≡ got a q) where
@@ -43,41 +41,22 @@ module _ (b w : List ℕ) (o : Opened) (x : Ready (firstWords b (o .layout .word
   abbrev ws : List ℕ
   ws = firstWords b (o .layout .words)
 
-  inside : i < length (moduleIn ws .imports)
-  inside = imports-in ws w o x i h
-
-  pub import-room : o .index .imports + i < length w
-  import-room = entry-room importOf ws (moduleIn ws .imports) w (o .index .imports) (x .imports) i inside
-
   module _ {p : ℕ} (e : p ≡ posAt w (o .index .imports) i) where
     stood : importOf ws p ≡ got (importAt (moduleIn ws) i) (posAt w (o .index .imports) (i + 1))
     unfolding importAt
-    stood = ap (importOf ws) e ∙ entry-ends importOf ws (moduleIn ws .imports) w (o .index .imports) (x .imports) noImport i inside
-
-    pub import-within : p + 2 < o .layout .words
-    unfolding encodeImport
-    import-within =
-        let st = import-codes ws .found p _ _ stood .stands in
-        omega (arith, stands-in ws st, st .end, length-firstWords b (o .layout .words))
+    stood = import-stands b w o x i h e noImport
 
     pub import-first : {s : ℕ} → s ≡ getD (words b) p 0 → s ≡ importAt (moduleIn ws) i .moduleName
-    unfolding encodeImport
-    import-first k =
-        let z : p ≡ p + 0 = omega arith in
-        k ∙ sym (firstWords-at b (o .layout .words) p (omega (arith, import-within))) ∙ ap (λ j. getD ws j 0) z
-        ∙ stands-at ws (import-codes ws .found p _ _ stood .stands) 0 (omega arith)
+    unfolding importAt encodeImport
+    import-first k = let z : p ≡ p + 0 = omega arith in import-word b w o x i h e noImport 0 (omega arith) (k ∙ ap (λ j. getD (words b) j 0) z)
 
     pub import-second : {s : ℕ} → s ≡ getD (words b) (p + 1) 0 → s ≡ importAt (moduleIn ws) i .name
-    unfolding encodeImport
-    import-second k =
-        k ∙ sym (firstWords-at b (o .layout .words) (p + 1) (omega (arith, import-within)))
-        ∙ stands-at ws (import-codes ws .found p _ _ stood .stands) 1 (omega arith)
+    unfolding importAt encodeImport
+    import-second = import-word b w o x i h e noImport 1 (omega arith)
 
     pub import-third : {s : ℕ} → s ≡ getD (words b) (p + 2) 0 → s ≡ importAt (moduleIn ws) i .sig
-    unfolding encodeImport
-    import-third k =
-        k ∙ sym (firstWords-at b (o .layout .words) (p + 2) import-within)
-        ∙ stands-at ws (import-codes ws .found p _ _ stood .stands) 2 (omega arith)
+    unfolding importAt
+    import-third = import-sig b w o x i h e noImport
 
     pub import-list : Whole (paramList ws (p + 3))
     import-list = list-read ws p stood λ r g. got-whole g

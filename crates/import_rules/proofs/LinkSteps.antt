@@ -1,5 +1,5 @@
 -- The place of an import in the host list, and what is broken before it is known to hold.
-use Prim.Native.Nat.{ℕ, zero, suc, _+_, _<_, min}
+use Prim.Native.Nat.{ℕ, _+_, _<_, min}
 use mathlib.Core.Path.{_≡_, refl, sym, ap, ap₂, _∙_}
 use mathlib.Core.List.{List, [], _∷_, _++_, append-assoc}
 use mathlib.Core.Bool.{Bool, true, false, cond}
@@ -17,10 +17,10 @@ use Rattle.error.specs.declared.Verdict.the-variants.{Holds, Broken as BrokenRu
 use Rattle.error.specs.Answer.{unless}
 use Rattle.error.specs.Verdict.{verdictOf}
 use Rattle.error.specs.VerdictLaws.{none-broken, verdict-stop}
-use Rattle.reader.specs.Reader.{got, Reader, many, listOf}
-use Rattle.reader.specs.ReaderLaws.{then-inv}
+use Rattle.reader.specs.Reader.{many, listOf}
 use Rattle.reader.specs.Value.{Whole}
 use Rattle.reader.specs.ValueLaws.{whole-inv, value-got, list-whole, list-value}
+use Rattle.reader.specs.SizeLaws.{many-length}
 use Rattle.sheet.specs.Module.{Import, Module}
 use Rattle.host.specs.declared.Found.{Found}
 use Rattle.host.specs.declared.Found.the-variants.{At, Missing}
@@ -34,19 +34,11 @@ use Rattle.import_rules.specs.Links.{linkedOf, namesFaults, headFaults, 
 
 -- ── a place in the host list is a word ──
 
-many-length : {A : Type 0} (f : Reader A) (ws : List ℕ) (n p : ℕ) (xs : List A) (q : ℕ) → many n f ws p ≡ got xs q → length xs ≡ n
-unfolding many
-many-length f ws zero p xs q e = let h : [] ≡ xs = cc in ap length (sym h)
-many-length f ws (suc n) p xs q e =
-    then-inv (f ws p) _ e λ a p₁ e₁ e₂. then-inv (many n f ws p₁) _ e₂ λ ys p₂ e₃ e₄.
-    let h : a ∷ ys ≡ xs = cc in
-    ap length (sym h) ∙ ap suc (many-length f ws n p₁ ys p₂ e₃)
-
 pub entry-least : (b : List ℕ) (n k : ℕ) {c r : ℕ} → Whole (listOf hostFn (firstWords b n) 2) → k < length (hostsIn (firstWords b n)) → c ≡ getD (words b) 2 0 → r ≡ min k c → r ≡ k
 entry-least b n k {c} h l z y =
     let e : length (hostsIn (firstWords b n)) ≡ c =
     whole-inv (many c hostFn (firstWords b n) 3) (list-whole hostFn b n 2 h z) (λ hs q g.
-    ap length (list-value hostFn b n 2 [] h z ∙ value-got [] g) ∙ many-length hostFn (firstWords b n) c 3 hs q g) in
+    ap length (list-value hostFn b n 2 [] h z ∙ value-got [] g) ∙ many-length c hostFn (firstWords b n) 3 hs q g) in
     omega arith
 
 -- ── after the lookup ──

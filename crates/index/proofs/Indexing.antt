@@ -21,8 +21,9 @@ use Rattle.reader.specs.StepLaws.{arrived, stuck, word-read}
 use Rattle.index.specs.declared.Part.{Part}
 use Rattle.reader.specs.Value.{Whole}
 use Rattle.reader.specs.ValueLaws.{whole-inv, list-within}
+use Rattle.reader.specs.SizeLaws.{many-length}
 use Rattle.index.specs.Index.{memberOf, edgesOf}
-use Rattle.index.specs.IndexLaws.{many-length, edges-got}
+use Rattle.index.specs.IndexLaws.{edges-got}
 use Rattle.index.proofs.Members.{member-is, member-in, member-inside, drop-next, getD-here}
 
 pub record Indexes (part : Part) (ws : List ℕ) (at : ℕ) (w₀ : List ℕ) (base : ℕ) (w : List ℕ) (left q i : ℕ) : Type 0 where

@@ -12,16 +12,10 @@ use Rattle.reader.specs.ReadLaws.{many-fit}
 use Rattle.layout.specs.Layout.{posOf}
 use Rattle.reader.specs.Value.{Whole}
 use Rattle.reader.specs.ValueLaws.{got-whole}
+use Rattle.reader.specs.SizeLaws.{many-length}
 use Rattle.index.specs.Index.{edges}
 
 -- ── positions of any list ──
-
-pub many-length : {A : Type 0} (n : ℕ) (f : Reader A) (ws : List ℕ) (p : ℕ) (xs : List A) (q : ℕ) → many n f ws p ≡ got xs q → length xs ≡ n
-unfolding many
-many-length zero f ws p xs q e = let h : [] ≡ xs = cc in ap length (sym h)
-many-length (suc n) f ws p xs q e =
-    then-inv (f ws p) _ e λ a p₁ e₁ e₂. then-inv (many n f ws p₁) _ e₂ λ ys p₂ e₃ e₄.
-    let h : a ∷ ys ≡ xs = cc in ap length (sym h) ∙ ap suc (many-length n f ws p₁ ys p₂ e₃)
 
 -- xs stand from p to q, member i from edge i to edge i + 1
 pub record Placed {A : Type 0} (f : Reader A) (ws : List ℕ) (n p : ℕ) (xs : List A) (q : ℕ) : Type 0 where

@@ -20,7 +20,7 @@ use Rattle.sheet.specs.Module.{opcode, slotA, slotB, slotC, slotW}
 use Rattle.sheet.specs.Module
 use Rattle.layout.specs.Opened.{moduleIn}
 use Rattle.opening.specs.declared.Opened.{Opened}
-use Rattle.opening.specs.Ready.{Opens, Ready}
+use Rattle.opening.specs.Ready.{Opens, Ready, Captured}
 use Rattle.opening.specs.ReadyLaws.{count-consts, count-imports, count-globals, count-funcs}
 use Rattle.code.specs.declared.FieldKind.{FieldKind}
 use Rattle.code.specs.declared.FieldKind
@@ -34,7 +34,7 @@ use Rattle.insts.specs.Insts.{inst}
 use Rattle.field_kinds.specs.Slots.{kindIn}
 use Rattle.opcodes.specs.Rules.{ruleOf}
 use Rattle.frames.specs.declared.Frame.{Frame}
-use Rattle.frames.specs.Frames.{funcOf, Framed, Captured, Shaped}
+use Rattle.frames.specs.Frames.{funcOf, Framed, Shaped}
 use Rattle.field_rules.specs.Fields.{noFaults, kindFaults, slotOf, slotFaults, slotsFaults}
 use Rattle.callee_rules.specs.Callees.{Checkable}
 use Rattle.inst_rules.specs.Counted.{Reached, ruleIn}

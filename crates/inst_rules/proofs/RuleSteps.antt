@@ -22,8 +22,8 @@ use Rattle.sheet.specs.Module.{Module, typeAt, kindWord, slotA, slotB, slotC, s
 use Rattle.sheet.specs.FuncCodes.{shapes-codes}
 use Rattle.layout.specs.Opened.{moduleIn}
 use Rattle.opening.specs.declared.Opened.{Opened}
-use Rattle.opening.specs.ReadyLaws.{funcs-in}
-use Rattle.code.specs.Callee.{funcAt}
+use Rattle.opening.specs.ReadyLaws.{funcs-in, captures-room}
+use Rattle.code.specs.Callee.{funcAt, noFunc}
 use Rattle.code.specs.Opcodes as definitions
 use Rattle.code.specs.Code.{isDynRegister, windowFaults, directFaults, hasKind, ruleFaults}
 use Rattle.insts.specs.declared.Inst.{Inst}
@@ -37,7 +37,7 @@ use Rattle.number_rules.specs.Numbers.{windowIn, promoteFaults, dynFaults, refF
 use Rattle.callee_rules.specs.Callees.{wantedFaults, importFaults, Checkable}
 use Rattle.inst_rules.specs.Counted.{Reached, ruleIn}
 use Rattle.callee_rules.proofs.Words.{value-within, value-dyn, few-args, few-shapes}
-use Rattle.callee_rules.proofs.CalleeSteps.{callee-few, callee-place, window-of}
+use Rattle.callee_rules.proofs.CalleeSteps.{callee-few, window-of}
 
 ap3 : {A : Type 0} (f : ℕ → ℕ → ℕ → A) {a b c x y z : ℕ} → a ≡ x → b ≡ y → c ≡ z → f a b c ≡ f x y z
 ap3 f {a} {b} {c} {x} {y} {z} p q r = ap (λ t. f t b c) p ∙ ap (λ t. f x t c) q ∙ ap (λ t. f x y t) r
@@ -189,11 +189,12 @@ module _ (b w : List ℕ) (o : Opened) (c : Frame) (x : Checkable (firstWords b 
       reach-closure = omega (arith, l, reach MakeClosure e h)
 
       pub closure-room : 4 * o .layout .words + g < length w
-      closure-room = callee-place b w o (x .ready) g reach-closure
+      closure-room = captures-room ws w o (x .ready) g reach-closure
 
       module _ {n : ℕ} (s : n ≡ getD w (4 * o .layout .words + g) 0) where
         counted : n ≡ length (funcAt m g .captures)
-        counted = s ∙ x .captured .captures g (funcs-in ws w o (x .ready) g reach-closure)
+        unfolding funcAt
+        counted = s ∙ x .captured .captures g noFunc (funcs-in ws w o (x .ready) g reach-closure)
 
         pub closure-few : n ≤ 520192
         closure-few = omega (arith, counted, x .few, callee-few b w o (x .ready) g reach-closure)

@@ -10,7 +10,7 @@ use Rattle.lists.specs.Lists.{concatMap, from}
 use Rattle.canon.specs.Canon.{canonType}
 use Rattle.code.specs.Callee.{importAt}
 use Rattle.writing.specs.Writing.{written}
-use Rattle.writing.specs.WritingLaws.{written-then, written-length, written-at, written-after, written-by}
+use Rattle.writing.specs.WritingLaws.{written-then, join-first, join-room, join-written, join-place, written-length, written-at, written-after, written-by}
 use Rattle.region.specs.Region.{Off, Frame}
 use Rattle.region.specs.RegionLaws.{frame-refl, frame-then}
 use Rattle.layout.specs.Opened.{moduleIn}
@@ -28,47 +28,41 @@ use Rattle.link.specs.Parts.{Clear, funcSection, typeSection, frontWords
 -- ── four writes in a row ──
 
 module _ (w : List ℕ) (at : ℕ) (s₁ s₂ s₃ s₄ : List ℕ) (room : at + length (s₁ ++ s₂ ++ s₃ ++ s₄) ≤ length w) where
-  all-length : length (s₁ ++ s₂ ++ s₃ ++ s₄) ≡ length s₁ + length s₂ + length s₃ + length s₄
-  all-length = omega (arith, length-append s₁ s₂, length-append (s₁ ++ s₂) s₃, length-append (s₁ ++ s₂ ++ s₃) s₄)
+  three-fit : at + length (s₁ ++ s₂ ++ s₃) ≤ length w
+  three-fit = join-first w at (s₁ ++ s₂ ++ s₃) s₄ room
+
+  two-fit : at + length (s₁ ++ s₂) ≤ length w
+  two-fit = join-first w at (s₁ ++ s₂) s₃ three-fit
 
   pub first-room : at + length s₁ ≤ length w
-  first-room = omega (arith, all-length)
+  first-room = join-first w at s₁ s₂ two-fit
 
   module _ {v : List ℕ} {p : ℕ} (a : v ≡ written w at s₁) (pa : p ≡ at + length s₁) where
-    len-1 : length v ≡ length w
-    len-1 = ap length a ∙ written-length w at s₁ first-room
-
     pub second-room : p + length s₂ ≤ length v
-    second-room = omega (arith, all-length, len-1, pa)
-
-    two : {u : List ℕ} → u ≡ written v p s₂ → u ≡ written w at (s₁ ++ s₂)
-    two b = b ∙ ap₂ (λ (x : List ℕ) (k : ℕ). written x k s₂) a pa ∙ written-then w at s₁ s₂ (omega (arith, first-room))
+    second-room = join-room w at s₁ s₂ two-fit v p a pa
 
     module _ {u : List ℕ} {q : ℕ} (b : u ≡ written v p s₂) (qb : q ≡ p + length s₂) where
-      q-at : q ≡ at + length (s₁ ++ s₂)
-      q-at = omega (arith, qb, pa, length-append s₁ s₂)
+      two : u ≡ written w at (s₁ ++ s₂)
+      two = join-written w at s₁ s₂ two-fit v p a pa b
 
-      len-2 : length u ≡ length w
-      len-2 = ap length b ∙ written-length v p s₂ second-room ∙ len-1
+      q-at : q ≡ at + length (s₁ ++ s₂)
+      q-at = join-place w at s₁ s₂ two-fit v p a pa qb
 
       pub third-room : q + length s₃ ≤ length u
-      third-room = omega (arith, all-length, len-2, qb, pa)
-
-      three : {t : List ℕ} → t ≡ written u q s₃ → t ≡ written w at (s₁ ++ s₂ ++ s₃)
-      three c = c ∙ ap₂ (λ (x : List ℕ) (k : ℕ). written x k s₃) (two b) q-at ∙ written-then w at (s₁ ++ s₂) s₃ (omega (arith, first-room))
+      third-room = join-room w at (s₁ ++ s₂) s₃ three-fit u q two q-at
 
       module _ {t : List ℕ} {s : ℕ} (c : t ≡ written u q s₃) (sc : s ≡ q + length s₃) where
-        s-at : s ≡ at + length (s₁ ++ s₂ ++ s₃)
-        s-at = omega (arith, sc, q-at, length-append (s₁ ++ s₂) s₃)
+        three : t ≡ written w at (s₁ ++ s₂ ++ s₃)
+        three = join-written w at (s₁ ++ s₂) s₃ three-fit u q two q-at c
 
-        len-3 : length t ≡ length w
-        len-3 = ap length c ∙ written-length u q s₃ third-room ∙ len-2
+        s-at : s ≡ at + length (s₁ ++ s₂ ++ s₃)
+        s-at = join-place w at (s₁ ++ s₂) s₃ three-fit u q two q-at sc
 
         pub fourth-room : s + length s₄ ≤ length t
-        fourth-room = omega (arith, all-length, len-3, sc, qb, pa)
+        fourth-room = join-room w at (s₁ ++ s₂ ++ s₃) s₄ room t s three s-at
 
         pub four : {x : List ℕ} → x ≡ written t s s₄ → x ≡ written w at (s₁ ++ s₂ ++ s₃ ++ s₄)
-        four d = d ∙ ap₂ (λ (x : List ℕ) (k : ℕ). written x k s₄) (three c) s-at ∙ written-then w at (s₁ ++ s₂ ++ s₃) s₄ (omega (arith, first-room))
+        four d = join-written w at (s₁ ++ s₂ ++ s₃) s₄ room t s three s-at d
 
 -- ── functions, types, imports, hooks ──
 

@@ -20,7 +20,7 @@ use Rattle.canon.specs.Canon.{sameType}
 use Rattle.layout.specs.Opened.{moduleIn}
 use Rattle.opening.specs.declared.Opened.{Opened}
 use Rattle.opening.specs.Ready.{Ready, posAt}
-use Rattle.opening.specs.ReadyLaws.{count-types, types-in, entry-room, entry-ends}
+use Rattle.opening.specs.ReadyLaws.{count-types, types-in, entry-ends}
 use Rattle.imports.specs.Params.{takenByReference}
 use Rattle.list_rules.specs.References.{valueFrom, referenceFits, referencesFit}
 
@@ -76,11 +76,6 @@ module _ (b w : List ℕ) (o : Opened) (x : Ready (firstWords b (o .layout .word
     where
       none : sameType coroutine (cell dyn) ≡ false
       none = unfold sameType encodeType encodeBody encodeValue kindWord valueWord in refl
-
-  pub type-room : v - 16 < o .counts .types → o .index .types + (v - 16) < length w
-  type-room l =
-      entry-room typeDef (firstWords b (o .layout .words)) (moduleIn (firstWords b (o .layout .words)) .types) w (o .index .types) (x .types) (v - 16)
-      (types-in (firstWords b (o .layout .words)) w o x (v - 16) l)
 
   module _ (l : v - 16 < o .counts .types) {p : ℕ} (e : p ≡ posAt w (o .index .types) (v - 16)) where
     stands : Stands (firstWords b (o .layout .words)) p (encodeType (typeAt (moduleIn (firstWords b (o .layout .words)) .types) (v - 16))) (posAt w (o .index .types) (v - 16 + 1))

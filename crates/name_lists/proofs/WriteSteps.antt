@@ -9,7 +9,7 @@ use Rattle.lists.specs.ListLaws.{length-concatMap}
 use Rattle.sheet.specs.Encode.{encodePair}
 use Rattle.region.specs.Region.{Frame}
 use Rattle.writing.specs.Writing.{written, wordsOf, Writes}
-use Rattle.writing.specs.WritingLaws.{written-then, written-length, writes-start, writes-next, writes-end, writes-length}
+use Rattle.writing.specs.WritingLaws.{written-then, written-length, writes-start, writes-next, writes-end, writes-length, join-written}
 use Rattle.table.specs.Records.{byName}
 use Rattle.name_sorting.specs.Merge.{pairsAt}
 use Rattle.name_sorting.specs.PairLaws.{pairs-length, pairs-at}
@@ -20,7 +20,7 @@ use Rattle.name_sorting.specs.Steps.{Room, Sorted}
 
 pub pushed-pair : (w v u : List ℕ) (at x y p : ℕ) → at + 1 < length w → v ≡ written w at (x ∷ []) → p ≡ at + 1 → u ≡ written v p (y ∷ []) → u ≡ written w at (encodePair (x, y))
 unfolding encodePair
-pushed-pair w v u at x y p h e i f = f ∙ ap₂ (λ l k. written l k (y ∷ [])) e i ∙ written-then w at (x ∷ []) (y ∷ []) (omega arith)
+pushed-pair w v u at x y p h e i f = join-written w at (x ∷ []) (y ∷ []) (omega arith) v p e i f
 
 -- the slice keeps its length
 pub pushed-one : (w v : List ℕ) (at x : ℕ) → at < length w → v ≡ written w at (x ∷ []) → length v ≡ length w

@@ -1,3 +1,4 @@
 pub mod Ready
 pub mod ReadyLaws
+pub mod MemberLaws
 pub mod Filing

@@ -5,7 +5,7 @@ use mathlib.Core.List.{List}
 use lib.ListN.{length, getD}
 use Rattle.reader.specs.Reader.{got, Reader}
 use Rattle.reader.specs.Text.{string}
-use Rattle.sheet.specs.Module.{Module}
+use Rattle.sheet.specs.Module.{Func, Module}
 use Rattle.sheet.specs.Decode.{typeDef, constOf, importOf, functionOf}
 use Rattle.layout.specs.LayoutLaws.{Located}
 use Rattle.layout.specs.Opened.{moduleIn}
@@ -53,6 +53,10 @@ pub record Ready (ws w : List ℕ) (o : Opened) : Type 0 where
   pub stringNumbers : (s : ℕ) → s < length (moduleIn ws .strings) → getD w (o .layout .words + s) 0 ≡ canonString (moduleIn ws .strings) s
   pub typeNumbers : (t : ℕ) → t < length (moduleIn ws .types) → getD w (2 * o .layout .words + t) 0 ≡ canonType (moduleIn ws .types) t
   pub marks : (s : ℕ) → s < length (moduleIn ws .strings) → getD w (3 * o .layout .words + s) 0 ≡ 0
+
+-- word 4 * words + f is how many captures function f has
+pub record Captured (ws w : List ℕ) (o : Opened) : Type 0 where
+  pub captures : (f : ℕ) (d : Func) → f < length (moduleIn ws .funcs) → getD w (4 * o .layout .words + f) 0 ≡ length (getD (moduleIn ws .funcs) f d .captures)
 
 -- v is w but for the free words
 unfoldable pub Kept : Opened → List ℕ → List ℕ → Type 0

@@ -19,6 +19,7 @@ use Rattle.index.specs.Index.{indexOf}
 use Rattle.index.specs.SheetIndex.{strings-indexed, types-indexed, consts-indexed, imports-indexed, funcs-indexed}
 use Rattle.canon.specs.Canon.{canonString, canonType}
 use Rattle.region.specs.Region.{Frame}
+use Rattle.region.specs.RegionLaws.{frame-refl, frame-then}
 use Rattle.opening.specs.declared.Counts.{Counts}
 use Rattle.opening.specs.declared.Opened.{Opened}
 use Rattle.opening.specs.Ready.{countsOf, Opens, Entries, Ready, Kept, posAt}
@@ -99,64 +100,60 @@ module _ (ws w : List ℕ) (o : Opened) (x : Ready ws w o) where
 -- ── each part's edges are inside the index ──
 
 module _ (ws w : List ℕ) (o : Opened) (x : Ready ws w o) where
-  -- what an edge is, by the layout
-  edge : (f : Index → ℕ) → f (o .index) ≡ f (indexOf ws (o .layout))
-  edge f = ap f (x .edges)
+  -- a part whose edges end before the index does
+  inside : (f : Index → ℕ) (n : ℕ) → f (indexOf ws (o .layout)) + n < indexOf ws (o .layout) .end → f (o .index) + n < o .layout .words
+  inside f n h = omega (arith, x .inside, ap f (x .edges), ap (λ (i : Index). i .end) (x .edges))
 
   pub strings-inside : o .index .strings + length (moduleIn ws .strings) < o .layout .words
   unfolding indexOf
-  strings-inside =
-      omega (
-        arith,
-        x .inside,
-        edge (λ (i : Index). i .strings),
-        edge (λ (i : Index). i .end),
-        strings-indexed ws (moduleIn ws) (o .layout) (x .opens .located) .count,
-      )
+  strings-inside = inside (λ (i : Index). i .strings) (length (moduleIn ws .strings)) (omega (arith, strings-indexed ws (moduleIn ws) (o .layout) (x .opens .located) .count))
 
   pub types-inside : o .index .types + length (moduleIn ws .types) < o .layout .words
   unfolding indexOf
-  types-inside =
-      omega (
-        arith,
-        x .inside,
-        edge (λ (i : Index). i .types),
-        edge (λ (i : Index). i .end),
-        types-indexed ws (moduleIn ws) (o .layout) (x .opens .located) .count,
-      )
+  types-inside = inside (λ (i : Index). i .types) (length (moduleIn ws .types)) (omega (arith, types-indexed ws (moduleIn ws) (o .layout) (x .opens .located) .count))
 
   pub consts-inside : o .index .consts + length (moduleIn ws .consts) < o .layout .words
   unfolding indexOf
-  consts-inside =
-      omega (
-        arith,
-        x .inside,
-        edge (λ (i : Index). i .consts),
-        edge (λ (i : Index). i .end),
-        consts-indexed ws (moduleIn ws) (o .layout) (x .opens .located) .count,
-      )
+  consts-inside = inside (λ (i : Index). i .consts) (length (moduleIn ws .consts)) (omega (arith, consts-indexed ws (moduleIn ws) (o .layout) (x .opens .located) .count))
 
   pub imports-inside : o .index .imports + length (moduleIn ws .imports) < o .layout .words
   unfolding indexOf
-  imports-inside =
-      omega (
-        arith,
-        x .inside,
-        edge (λ (i : Index). i .imports),
-        edge (λ (i : Index). i .end),
-        imports-indexed ws (moduleIn ws) (o .layout) (x .opens .located) .count,
-      )
+  imports-inside = inside (λ (i : Index). i .imports) (length (moduleIn ws .imports)) (omega (arith, imports-indexed ws (moduleIn ws) (o .layout) (x .opens .located) .count))
 
   pub funcs-inside : o .index .funcs + length (moduleIn ws .funcs) < o .layout .words
   unfolding indexOf
-  funcs-inside =
-      omega (
-        arith,
-        x .inside,
-        edge (λ (i : Index). i .funcs),
-        edge (λ (i : Index). i .end),
-        funcs-indexed ws (moduleIn ws) (o .layout) (x .opens .located) .count,
-      )
+  funcs-inside = inside (λ (i : Index). i .funcs) (length (moduleIn ws .funcs)) (omega (arith, funcs-indexed ws (moduleIn ws) (o .layout) (x .opens .located) .count))
+
+  -- ── the word of a member's place ──
+
+  pub string-room : (s : ℕ) → s < o .counts .strings → o .index .strings + s < length w
+  string-room s h = entry-room string ws (moduleIn ws .strings) w (o .index .strings) (x .strings) s (strings-in ws w o x s h)
+
+  pub type-room : (t : ℕ) → t < o .counts .types → o .index .types + t < length w
+  type-room t h = entry-room typeDef ws (moduleIn ws .types) w (o .index .types) (x .types) t (types-in ws w o x t h)
+
+  module _ (t : ℕ) (h : t < o .counts .types) {p : ℕ} (e : p ≡ posAt w (o .index .types) t) where
+    pub type-whole : Whole (typeDef ws p)
+    type-whole = rw e (entry-whole typeDef ws (moduleIn ws .types) w (o .index .types) (x .types) coroutine t (types-in ws w o x t h))
+
+    pub type-value : valueOf coroutine (typeDef ws p) ≡ typeAt (moduleIn ws .types) t
+    unfolding typeAt
+    type-value = rw e (entry-value typeDef ws (moduleIn ws .types) w (o .index .types) (x .types) coroutine t (types-in ws w o x t h))
+
+  pub const-room : (c : ℕ) → c < o .counts .consts → o .index .consts + c < length w
+  const-room c h = entry-room constOf ws (moduleIn ws .consts) w (o .index .consts) (x .consts) c (consts-in ws w o x c h)
+
+  pub import-room : (i : ℕ) → i < o .counts .imports → o .index .imports + i < length w
+  import-room i h = entry-room importOf ws (moduleIn ws .imports) w (o .index .imports) (x .imports) i (imports-in ws w o x i h)
+
+  pub func-room : (f : ℕ) → f < o .counts .funcs → o .index .funcs + f < length w
+  func-room f h = entry-room functionOf ws (moduleIn ws .funcs) w (o .index .funcs) (x .funcs) f (funcs-in ws w o x f h)
+
+  -- and of a function's count of captures
+  pub captures-room : (f : ℕ) → f < o .counts .funcs → 4 * o .layout .words + f < length w
+  captures-room f h = omega (arith, x .room, funcs-in ws w o x f h, funcs-inside)
+
+  -- ── what is kept ──
 
   -- the sheet is still ready when no word of the four regions was written
   pub ready-below : (v : List ℕ) → Frame (λ k. k < 4 * o .layout .words) w v → Ready ws v o
@@ -189,3 +186,14 @@ module _ (ws w : List ℕ) (o : Opened) (x : Ready ws w o) where
   pub type-canon : (t : ℕ) → t < length (moduleIn ws .types) → posAt w (2 * o .layout .words) t ≡ canonType (moduleIn ws .types) t
   unfolding posAt
   type-canon t h = x .typeNumbers t h
+
+-- ── only free words were written ──
+
+module _ (o : Opened) where
+  pub kept-same : (w : List ℕ) → Kept o w w
+  unfolding Kept
+  kept-same w = frame-refl (λ k. k < 5 * o .layout .words) w
+
+  pub kept-then : (w v u : List ℕ) → Kept o w v → Kept o v u → Kept o w u
+  unfolding Kept
+  kept-then w v u f g = frame-then (λ k. k < 5 * o .layout .words) (λ k. k < 5 * o .layout .words) (λ k. k < 5 * o .layout .words) w v u (λ k h. h) (λ k h. h) f g

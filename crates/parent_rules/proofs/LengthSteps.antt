@@ -12,10 +12,10 @@ use borrow.Author.Tests.{lt-ltb, le-ltb, ltb-true}
 use Rattle.sheet.specs.Module.{TypeDef, typeAt, isStruct}
 use Rattle.layout.specs.Opened.{moduleIn}
 use Rattle.region.specs.Region.{wordAt, Off, Frame}
-use Rattle.region.specs.RegionLaws.{frame-refl, frame-then, frame-set}
+use Rattle.region.specs.RegionLaws.{frame-refl, frame-set}
 use Rattle.opening.specs.declared.Opened.{Opened}
 use Rattle.opening.specs.Ready.{Ready, Kept}
-use Rattle.opening.specs.ReadyLaws.{count-types, types-inside, ready-kept}
+use Rattle.opening.specs.ReadyLaws.{count-types, types-inside, ready-kept, kept-then}
 use Rattle.parents.specs.Forest.{chain}
 use Rattle.parent_rules.specs.Child.{parentWord}
 use Rattle.parent_rules.specs.Lengths.{lengthAt, noted, Remembers}
@@ -45,14 +45,6 @@ module _ (o : Opened) (w : List ℕ) (t : ℕ) where
 -- ── words that are kept ──
 
 module _ (o : Opened) where
-  pub kept-same : (w : List ℕ) → Kept o w w
-  unfolding Kept
-  kept-same w = frame-refl (λ k. k < 5 * o .layout .words) w
-
-  pub kept-then : (w v u : List ℕ) → Kept o w v → Kept o v u → Kept o w u
-  unfolding Kept
-  kept-then w v u f g = frame-then (λ k. k < 5 * o .layout .words) (λ k. k < 5 * o .layout .words) (λ k. k < 5 * o .layout .words) w v u (λ k h. h) (λ k h. h) f g
-
   kept-noted : (w : List ℕ) (t n left : ℕ) → Kept o w (noted o w t n left)
   unfolding Kept noted
   kept-noted w t n left = go (ltb n left)
@@ -62,7 +54,7 @@ module _ (o : Opened) where
       go false = frame-refl (λ k. k < 5 * o .layout .words) w
 
   pub kept-noting : (w v u : List ℕ) (t n left : ℕ) → Kept o w v → u ≡ noted o v t n left → Kept o w u
-  kept-noting w v u t n left f e = kept-then w v u f (subst (Kept o v) (sym e) (kept-noted v t n left))
+  kept-noting w v u t n left f e = kept-then o w v u f (subst (Kept o v) (sym e) (kept-noted v t n left))
 
 -- ── what is remembered ──
 

@@ -23,14 +23,13 @@ use Rattle.sheet.specs.Module.{TypeDef, coroutine, Module, typeAt, structOf, is
 use Rattle.layout.specs.Opened.{moduleIn}
 use Rattle.opening.specs.declared.Opened.{Opened}
 use Rattle.opening.specs.Ready.{Ready, Kept}
-use Rattle.opening.specs.ReadyLaws.{types-in, count-types}
+use Rattle.opening.specs.ReadyLaws.{types-in, count-types, kept-same, kept-then}
 use Rattle.judging.specs.Clearing.{Clears, clears-start, clears-next, clears-holds, clears-stop}
 use Rattle.parents.specs.Forest.{other, sub, entry}
 use Rattle.parents.specs.Parents.{fieldWords, fieldsFirst, shortChain, childFaults, parentFaults, parentsFaults}
 use Rattle.parent_rules.specs.Child.{parentWord, extends, scanFaults}
 use Rattle.parent_rules.specs.Lengths.{Remembers}
 use Rattle.parent_rules.proofs.ChainSteps.{entry-none, entry-sub}
-use Rattle.parent_rules.proofs.LengthSteps.{kept-same, kept-then}
 
 -- ── what is broken in one type ──
 

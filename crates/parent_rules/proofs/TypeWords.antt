@@ -11,10 +11,8 @@ use Rattle.lists.specs.Lists.{concatMap}
 use Rattle.lists.specs.ListLaws.{length-concatMap}
 use Rattle.blocks.specs.Blocks.{words}
 use Rattle.blocks.specs.Frame.{firstWords}
-use Rattle.blocks.specs.FirstWords.{length-firstWords, firstWords-at}
 use Rattle.reader.specs.Reader.{got, encodeList}
-use Rattle.reader.specs.ReaderLaws.{Stands, stands-at}
-use Rattle.reader.specs.ReadLaws.{read-inside}
+use Rattle.reader.specs.SizeLaws.{word-within, word-held}
 use Rattle.sheet.specs.Module.{Struct, TypeDef, func, struct, cell, iter, coroutine, kindWord, typeAt, structOf, isStruct}
 use Rattle.sheet.specs.Decode.{typeDef}
 use Rattle.sheet.specs.Encode.{encodeValue, encodeField, encodeMethod, encodeStruct, encodeBody, encodeType}
@@ -24,45 +22,28 @@ use Rattle.sheet.specs.TypeLaws.{type-out, struct-known}
 use Rattle.layout.specs.Opened.{moduleIn}
 use Rattle.opening.specs.declared.Opened.{Opened}
 use Rattle.opening.specs.Ready.{Ready, posAt}
-use Rattle.opening.specs.ReadyLaws.{types-in, entry-room, entry-ends, count-types}
+use Rattle.opening.specs.ReadyLaws.{types-in, entry-ends, count-types}
 use Rattle.parents.specs.Parents.{fieldWords}
 use Rattle.parent_rules.specs.Child.{parentOf, parentWord}
 
 -- ── where a type's words stand ──
 
 module _ (ws w : List ℕ) (o : Opened) (x : Ready ws w o) (t : ℕ) (h : t < o .counts .types) where
-  pub type-room : o .index .types + t < length w
-  type-room = entry-room typeDef ws (moduleIn ws .types) w (o .index .types) (x .types) t (types-in ws w o x t h)
-
   there : typeDef ws (posAt w (o .index .types) t) ≡ got (typeAt (moduleIn ws .types) t) (posAt w (o .index .types) (t + 1))
   unfolding typeAt
   there = entry-ends typeDef ws (moduleIn ws .types) w (o .index .types) (x .types) coroutine t (types-in ws w o x t h)
 
-  stand : Stands ws (posAt w (o .index .types) t) (encodeType (typeAt (moduleIn ws .types) t)) (posAt w (o .index .types) (t + 1))
-  stand = type-codes ws .found _ _ _ there .stands
-
-  ends : posAt w (o .index .types) (t + 1) ≤ length ws
-  ends = read-inside ws typeDef encodeType codedType (type-codes ws) _ _ _ there (unfold encodeType in omega arith)
-
-  word-inside : (i : ℕ) → i < length (encodeType (typeAt (moduleIn ws .types) t)) → posAt w (o .index .types) t + i < length ws
-  word-inside i l = omega (arith, ends, stand .end)
-
-  word-there : (i : ℕ) → i < length (encodeType (typeAt (moduleIn ws .types) t)) → getD ws (posAt w (o .index .types) t + i) 0 ≡ getD (encodeType (typeAt (moduleIn ws .types) t)) i 0
-  word-there i l = stands-at ws stand i l
-
 module _ (b : List ℕ) (w : List ℕ) (o : Opened) (x : Ready (firstWords b (o .layout .words)) w o) (t : ℕ) (h : t < o .counts .types) (i : ℕ)
     (l : i < length (encodeType (typeAt (moduleIn (firstWords b (o .layout .words)) .types) t))) where
-  word-in : {p : ℕ} → p ≡ posAt w (o .index .types) t → p + i < o .layout .words
-  word-in e = omega (arith, word-inside (firstWords b (o .layout .words)) w o x t h i l, length-firstWords b (o .layout .words))
-
   pub word-small : {p : ℕ} → p ≡ posAt w (o .index .types) t → p + i < length w
-  word-small e = omega (arith, word-in e, x .room)
+  word-small e =
+      let ws = firstWords b (o .layout .words) in
+      omega (arith, e, x .room, word-within typeDef encodeType codedType b (o .layout .words) (type-codes ws) _ _ _ (there ws w o x t h) i l)
 
   pub word-is : {p r : ℕ} → p ≡ posAt w (o .index .types) t → r ≡ getD (words b) (p + i) 0 → r ≡ getD (encodeType (typeAt (moduleIn (firstWords b (o .layout .words)) .types) t)) i 0
   word-is {p} {r} e k =
-      k ∙ sym (firstWords-at b (o .layout .words) (p + i) (word-in e))
-      ∙ ap (λ q. getD (firstWords b (o .layout .words)) (q + i) 0) e
-      ∙ word-there (firstWords b (o .layout .words)) w o x t h i l
+      let ws = firstWords b (o .layout .words) in
+      word-held typeDef encodeType codedType b (o .layout .words) (type-codes ws) _ _ _ (there ws w o x t h) i l (k ∙ ap (λ q. getD (words b) (q + i) 0) e)
 
 -- ── the kind ──
 

@@ -15,7 +15,7 @@ use Rattle.reader.specs.Reader.{Got, broken, got, Reader, andThen, _>>=_, pure,
 use Rattle.reader.specs.Step.{stepOf}
 use Rattle.reader.specs.StepLaws.{word-read, word-none, beyond, arrived, stuck, make}
 use Rattle.reader.specs.AlikeLaws.{three-on}
-use Rattle.reader.specs.RecordSteps.{Sized, sized-next, sized-end, sized-word, sized-list, sized-fit, sized-short}
+use Rattle.reader.specs.RecordSteps.{Sized, sized-two, sized-next, sized-end, sized-word, sized-list, sized-fit, sized-short}
 use Rattle.sheet.specs.Module.{ValueType, Const, plain, Param, ParamList}
 use Rattle.sheet.specs.Decode.{valueType, plainConst, stringConst, arrayConst, pairOf, mapConst, constBodies, constOf, paramOf, someParams, paramList, importOf, globalOf}
 
@@ -77,7 +77,7 @@ const-past bytes n at h = rw (word-none bytes n at h)
 
 param-sized : Sized paramOf 2
 unfolding paramOf
-param-sized = sized-next (λ f. word >>= (λ a. pure (record { flags = f; name+ = a }))) λ f. sized-next (λ a. pure (record { flags = f; name+ = a })) λ a. sized-end _
+param-sized = sized-two λ f a. record { flags = f; name+ = a }
 
 module _ (bytes : List ℕ) (n at : ℕ) {w : ℕ} where
   pub params-none : at < n → w ≡ getD (words bytes) at 0 → w ≡ 0 → Next (at + 1) ≡ stepOf (paramList (firstWords bytes n) at)

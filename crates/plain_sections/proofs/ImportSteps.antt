@@ -11,7 +11,7 @@ use Rattle.opening.specs.declared.Opened.{Opened}
 use Rattle.opening.specs.Ready.{Ready, posAt}
 use Rattle.opening.specs.ReadyLaws.{count-imports, imports-in, imports-inside, types-inside, type-canon}
 use Rattle.writing.specs.Writing.{written}
-use Rattle.writing.specs.WritingLaws.{written-then}
+use Rattle.writing.specs.WritingLaws.{join-written}
 use Rattle.plain_sections.specs.Sections.{eachOf, linkedImport, linkedImports, SigsInside}
 use Rattle.plain_sections.proofs.RowSteps.{Rows, counted-room, counted-all, rows-room, rows-next}
 
@@ -45,7 +45,7 @@ module _ (ws w : List ℕ) (o : Opened) (x : Ready ws w o) where
           → v ≡ written u at (r ∷ []) → next ≡ at + 1 → v' ≡ written v next (k ∷ []) → v' ≡ written u at (linkedImport ws w o i)
       unfolding linkedImport
       import-written u v v' at next {r} {k} room a b c d f =
-          f ∙ ap₂ (λ l j. written l j (k ∷ [])) c d ∙ written-then u at (r ∷ []) (k ∷ []) (omega arith)
+          join-written u at (r ∷ []) (k ∷ []) (omega arith) v next c d f
           ∙ ap₂ (λ p q. written u at (p ∷ q ∷ [])) (a ∙ type-canon ws w o x t sig-in ∙ ap (canonType (moduleIn ws .types)) e) b
 
   -- ── all ──

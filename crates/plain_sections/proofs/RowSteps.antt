@@ -1,6 +1,6 @@
 -- Words of members 0, 1, .. n - 1 written one after the other, and a count before them.
 use Prim.Native.Nat.{ℕ, zero, suc, _+_, _≤_, _<_}
-use mathlib.Core.Path.{_≡_, sym, ap, ap₂, _∙_}
+use mathlib.Core.Path.{_≡_, sym, ap, _∙_}
 use mathlib.Core.List.{List, [], _∷_}
 use native.Mathlib.Omega.{arith}
 use native.Mathlib.Nat.{zero-add}
@@ -8,7 +8,7 @@ use lib.ListN.{length, getD}
 use Rattle.lists.specs.Lists.{from}
 use Rattle.lists.specs.ListLaws.{length-from}
 use Rattle.writing.specs.Writing.{written, wordsOf, Writes}
-use Rattle.writing.specs.WritingLaws.{written-then, written-length, writes-start, writes-next, writes-end, writes-place, writes-length, writes-room}
+use Rattle.writing.specs.WritingLaws.{written-length, writes-start, writes-next, writes-end, writes-place, writes-length, writes-room, join-written}
 use Rattle.plain_sections.specs.Sections.{eachOf}
 
 -- the words of the first i members are written into w from place at on: v now, and p is the next place
@@ -70,4 +70,4 @@ module _ (u : List ℕ) (at c : ℕ) (ys : List ℕ) (room : at + 1 + length ys 
   counted-room = omega (arith, counted-length)
 
   pub counted-all : (v' : List ℕ) → v' ≡ written v first ys → v' ≡ written u at (c ∷ ys)
-  counted-all v' f = f ∙ ap₂ (λ l i. written l i ys) e k ∙ written-then u at (c ∷ []) ys (omega arith)
+  counted-all v' f = join-written u at (c ∷ []) ys (omega arith) v first e k f

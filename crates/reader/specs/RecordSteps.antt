@@ -115,6 +115,10 @@ pub sized-end : {A : Type 0} (a : A) → Sized (pure a) 0
 unfolding many stepOf
 sized-end a = record { ends = λ ws p. refl }
 
+-- a record of two words
+pub sized-two : {A : Type 0} (g : ℕ → ℕ → A) → Sized (word >>= (λ a. word >>= (λ b. pure (g a b)))) 2
+sized-two g = sized-next (λ a. word >>= (λ b. pure (g a b))) λ a. sized-next (λ b. pure (g a b)) λ b. sized-end (g a b)
+
 pub sized-word : Sized word 1
 unfolding many stepOf
 sized-word = record { ends = λ ws p. sym (make (word ws p) (λ a. a ∷ [])) }

@@ -49,7 +49,7 @@ module _ {A : Type 0} (f : Reader A) (b : List ℕ) (n at : ℕ) where
       go (yes l) = l
       go (no k) = absurd (not-whole (list-past (omega arith)) h)
 
-  list-opened : {w : ℕ} → at < n → w ≡ getD (words b) at 0 → listOf f (firstWords b n) at ≡ many w f (firstWords b n) (at + 1)
+  pub list-opened : {w : ℕ} → at < n → w ≡ getD (words b) at 0 → listOf f (firstWords b n) at ≡ many w f (firstWords b n) (at + 1)
   unfolding listOf
   list-opened h e = rw (word-read b n at h e)
 

@@ -23,13 +23,11 @@ use Rattle.code.specs.Code.{codesFaults}
 use Rattle.hooks.specs.Hooks.{hooksFaults, startFaults, exportsFaults}
 use Rattle.load.specs.Load.{moduleFaults}
 use Rattle.region.specs.Region.{wordAt, Off, Frame}
-use Rattle.region.specs.RegionLaws.{frame-refl, frame-then}
+use Rattle.region.specs.RegionLaws.{frame-then}
 use Rattle.opening.specs.declared.Opened.{Opened}
-use Rattle.opening.specs.Ready.{Opens, Ready, Kept}
-use Rattle.opening.specs.ReadyLaws.{count-funcs, funcs-inside, ready-below, ready-kept}
+use Rattle.opening.specs.Ready.{Opens, Ready, Kept, Captured}
+use Rattle.opening.specs.ReadyLaws.{count-funcs, funcs-inside, ready-below, ready-kept, kept-same}
 use Rattle.bodies.specs.Bodies.{Countable}
-use Rattle.frames.specs.Frames.{Captured}
-use Rattle.end_rules.specs.Ends.{CaptureCounts}
 use Rattle.code_rules.specs.Sweep.{Above}
 use Rattle.import_rules.specs.Links.{HostEntries, LinkedIf}
 use Rattle.rules.specs.Groups.{frontFaults, recordFaults, endFaults, bodyFaults, LinksKept}
@@ -61,14 +59,6 @@ module _ (m : Module) where
   pub consts-last : {r s x : Judged} → r ≡ Passed → r ≡ judgedOf (typesFaults m) → s ≡ Passed → s ≡ judgedOf (parentsFaults 256 m) → x ≡ judgedOf (constsFaults 64 m) → x ≡ judgedOf (frontFaults m)
   unfolding frontFaults
   consts-last = third-last (typesFaults m) (parentsFaults 256 m) (constsFaults 64 m)
-
-pub kept-same : (o : Opened) (w : List ℕ) → Kept o w w
-unfolding Kept
-kept-same o w = frame-refl (λ k. k < 5 * o .layout .words) w
-
-pub kept-then : (o : Opened) (w v u : List ℕ) → Kept o w v → Kept o v u → Kept o w u
-unfolding Kept
-kept-then o w v u f g = frame-then (λ k. k < 5 * o .layout .words) (λ k. k < 5 * o .layout .words) (λ k. k < 5 * o .layout .words) w v u (λ k h. h) (λ k h. h) f g
 
 pub ruleset front-order = (types-stop, parents-stop, consts-last, kept-same)
 
@@ -141,7 +131,11 @@ module _ (ws w : List ℕ) (o : Opened) (x : Ready ws w o) where
     counted-ready = ready-below ws w o x v (record { len = a .len; same = λ k h. a .same k (λ i j. omega arith) })
 
     pub counted-captured : Captured ws v o
-    counted-captured = record { captures = λ f h. c f (omega (arith, count-funcs ws o (x .opens))) }
+    unfolding funcAt
+    counted-captured = record {
+      captures = λ f d h.
+          c f (omega (arith, count-funcs ws o (x .opens))) ∙ ap (λ (g : Func). length (g .captures)) (getD-other (moduleIn ws .funcs) f noFunc d h);
+    }
 
     -- code writes above only
     module _ (u : List ℕ) (b : Above o v u) where
@@ -149,14 +143,9 @@ module _ (ws w : List ℕ) (o : Opened) (x : Ready ws w o) where
       unfolding Above
       swept-ready = ready-below ws v o counted-ready u (record { len = b .len; same = λ k h. b .same k (omega arith) })
 
-      pub swept-counts : CaptureCounts ws u o
-      unfolding Above funcAt noFunc
-      swept-counts = record {
-        count = λ f d h.
-            b .same (4 * o .layout .words + f) (omega (arith, funcs-inside ws w o x))
-            ∙ c f (omega (arith, count-funcs ws o (x .opens)))
-            ∙ ap (λ (g : Func). length (g .captures)) (getD-other (moduleIn ws .funcs) f noFunc d h);
-      }
+      pub swept-captured : Captured ws u o
+      unfolding Above
+      swept-captured = record { captures = λ f d h. b .same (4 * o .layout .words + f) (omega (arith, funcs-inside ws w o x)) ∙ counted-captured .captures f d h }
 
       pub swept-links : LinksKept o w u
       unfolding Above LinksKept
@@ -167,7 +156,7 @@ module _ (ws w : List ℕ) (o : Opened) (x : Ready ws w o) where
           a
           b
 
-pub ruleset body-order = (codes-stop, ends-last, countable, counted-ready, counted-captured, swept-ready, swept-counts, swept-links)
+pub ruleset body-order = (codes-stop, ends-last, countable, counted-ready, counted-captured, swept-ready, swept-captured, swept-links)
 
 -- ── all rules ──
 

@@ -7,11 +7,10 @@ ghost use Rattle.error.specs.Verdict.{judgedOf};
 ghost use Rattle.host.specs.Listed.{hostsIn};
 ghost use Rattle.host_index.specs.Sorted.{SortedHosts};
 ghost use Rattle.layout.specs.Opened.{moduleIn};
-ghost use Rattle.opening.specs.Ready.{Ready, Kept};
+ghost use Rattle.opening.specs.Ready.{Ready, Captured, Kept};
 ghost use Rattle.types.specs.Types.{typesFaults};
 ghost use Rattle.parents.specs.Parents.{mostOnChain};
 ghost use Rattle.import_rules.specs.Links.{LinkedIf};
-ghost use Rattle.end_rules.specs.Ends.{CaptureCounts};
 ghost use Rattle.load.specs.Load.{moduleFaults};
 ghost use Rattle.rules.specs.Groups.{frontFaults, recordFaults, bodyFaults, endFaults, LinksKept};
 use bodies::index_captures;
@@ -83,7 +82,7 @@ fn check_records(
 // Every hook, start, exports.
 fn check_ends(sheet: &[u8], work: &[u32], o: Opened) -> Judged
     requires { ⌜ Ready (firstWords (now sheet) (o .layout .words)) (now work) o ⌝ }
-    requires { ⌜ CaptureCounts (firstWords (now sheet) (o .layout .words)) (now work) o ⌝ }
+    requires { ⌜ Captured (firstWords (now sheet) (o .layout .words)) (now work) o ⌝ }
     ensures { λ r. ⌜ r ≡ judgedOf (endFaults (moduleIn (firstWords (now (sheet .entry)) (o .layout .words)))) ⌝ }
 {
     match check_hooks(sheet, work, o) {

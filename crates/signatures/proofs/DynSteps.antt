@@ -16,23 +16,14 @@ use Rattle.reader.specs.ReaderLaws.{stands-in}
 use Rattle.reader.specs.ReadLaws.{read-at}
 use Rattle.reader.specs.Value.{Whole, valueOf}
 use Rattle.reader.specs.ValueLaws.{whole-inv, got-whole, value-got, list-whole, list-value, many-first}
-use Rattle.sheet.specs.Module.{ValueType, basic, ref, valueWord, isDyn}
+use Rattle.sheet.specs.Module.{ValueType, isDyn}
 use Rattle.sheet.specs.Decode.{valueType}
 use Rattle.sheet.specs.Encode.{encodeValue}
 use Rattle.sheet.specs.Coded.{codedValue}
 use Rattle.sheet.specs.TypeCodes.{value-codes}
 use Rattle.imports.specs.Imports.{oneDyn}
+use Rattle.signatures.specs.SignatureLaws.{dyn-word}
 use Rattle.signatures.proofs.SigSteps.{values-count}
-
--- dyn has a word of its own
-dyn-word : (v : ValueType) → eqb (valueWord v) 12 ≡ isDyn v
-unfolding valueWord isDyn
-dyn-word (basic k) = refl
-dyn-word (ref t) = go (eqb (16 + t) 12) refl
-  where
-    go : (b : Bool) → eqb (16 + t) 12 ≡ b → eqb (16 + t) 12 ≡ false
-    go true e = absurd (let z : 16 + t ≡ 12 = eqb-true (16 + t) 12 e in omega arith)
-    go false e = e
 
 module _ (b : List ℕ) (n at : ℕ) {v : ValueType} {q : ℕ} (e : valueType (firstWords b n) at ≡ got v q) where
   value-within : at < n

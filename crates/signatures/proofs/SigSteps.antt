@@ -35,7 +35,7 @@ use Rattle.imports.specs.Params.{isSignature, signatureFaults, sigParams, sigRe
 use Rattle.layout.specs.Opened.{moduleIn}
 use Rattle.opening.specs.declared.Opened.{Opened}
 use Rattle.opening.specs.Ready.{Ready, posAt}
-use Rattle.opening.specs.ReadyLaws.{count-types, entry-room, entry-whole, entry-value, types-in}
+use Rattle.opening.specs.ReadyLaws.{count-types, types-in, type-room, type-whole, type-value}
 use Rattle.signatures.specs.Signature.{HasSig}
 use Rattle.signatures.specs.SignatureLaws.{no-sig, no-type}
 
@@ -166,24 +166,14 @@ module _ (b : List ℕ) (n at : ℕ) {w : ℕ} (h : Whole (typeDef (firstWords b
 -- ── type t ──
 
 module _ (ws w : List ℕ) (o : Opened) (x : Ready ws w o) (t : ℕ) (h : t < o .counts .types) where
-  pub type-room : o .index .types + t < length w
-  type-room = entry-room typeDef ws (moduleIn ws .types) w (o .index .types) (x .types) t (types-in ws w o x t h)
-
   module _ {p : ℕ} (e : p ≡ posAt w (o .index .types) t) where
-    pub type-whole : Whole (typeDef ws p)
-    type-whole = rw e (entry-whole typeDef ws (moduleIn ws .types) w (o .index .types) (x .types) coroutine t (types-in ws w o x t h))
-
-    type-value : valueOf coroutine (typeDef ws p) ≡ typeAt (moduleIn ws .types) t
-    unfolding typeAt
-    type-value = rw e (entry-value typeDef ws (moduleIn ws .types) w (o .index .types) (x .types) coroutine t (types-in ws w o x t h))
-
     pub type-params : {r : ℕ} → r ≡ length (sigOf (valueOf coroutine (typeDef ws p)) .params) → r ≡ length (sigParams (moduleIn ws) t)
     unfolding sigParams
-    type-params k = k ∙ ap (λ d. length (sigOf d .params)) type-value
+    type-params k = k ∙ ap (λ d. length (sigOf d .params)) (type-value ws w o x t h e)
 
     pub type-results : {r : ℕ} → r ≡ length (sigOf (valueOf coroutine (typeDef ws p)) .results) → r ≡ length (sigResults (moduleIn ws) t)
     unfolding sigResults
-    type-results k = k ∙ ap (λ d. length (sigOf d .results)) type-value
+    type-results k = k ∙ ap (λ d. length (sigOf d .results)) (type-value ws w o x t h e)
 
     module _ {r : Bool} (k : r ≡ isSignature (valueOf coroutine (typeDef ws p))) where
       told : {v : Verdict} → v ≡ verdictOf (unless r BadSignature) → v ≡ verdictOf (signatureFaults (moduleIn ws) t)
@@ -191,7 +181,7 @@ module _ (ws w : List ℕ) (o : Opened) (x : Ready ws w o) (t : ℕ) (h : t < o 
       told {v} z =
           verdict-then (inRange Types (length (moduleIn ws .types)) t) (unless (isSignature (typeAt (moduleIn ws .types) t)) BadSignature)
           refl (range-holds Types (length (moduleIn ws .types)) t (types-in ws w o x t h))
-          (z ∙ ap (λ i. verdictOf (unless i BadSignature)) (k ∙ ap isSignature type-value))
+          (z ∙ ap (λ i. verdictOf (unless i BadSignature)) (k ∙ ap isSignature (type-value ws w o x t h e)))
 
       pub signature-holds : r ≡ true → Holds ≡ verdictOf (signatureFaults (moduleIn ws) t)
       unfolding verdictOf

@@ -1,13 +1,13 @@
 -- When a type has parameters and results.
-use Prim.Native.Nat.{ℕ, _≤_, _<_}
+use Prim.Native.Nat.{ℕ, _+_, _≤_, _<_}
 use mathlib.Core.Path.{_≡_, refl, ap, _∙_}
 use mathlib.Core.List.{List, [], _++_}
 use mathlib.Core.Bool.{Bool, true, false, _&&_}
 use native.Mathlib.Omega.{arith}
 use native.Mathlib.Decide.{decLt}
-use lib.Dec.{leb, ltb}
+use lib.Dec.{eqb, leb, ltb}
 use lib.ListN.{length, List·getD-eq-default}
-use borrow.Author.Tests.{ltb-true}
+use borrow.Author.Tests.{eqb-true, ltb-true}
 use Rattle.error.specs.declared.What.the-variants.{Types}
 use Rattle.error.specs.declared.LoadErrorKind.the-variants.{BadSignature, OutOfRange}
 use Rattle.error.specs.declared.Verdict.{Verdict}
@@ -15,7 +15,7 @@ use Rattle.error.specs.declared.Verdict.the-variants.{Holds}
 use Rattle.error.specs.Answer.{unless}
 use Rattle.error.specs.Verdict.{verdictOf}
 use Rattle.error.specs.VerdictLaws.{none-broken}
-use Rattle.sheet.specs.Module.{ValueType, Sig, TypeDef, func, struct, cell, iter, coroutine, Module, typeAt, kindWord, isFunc, noSig, sigOf}
+use Rattle.sheet.specs.Module.{ValueType, basic, ref, valueWord, isDyn, Sig, TypeDef, func, struct, cell, iter, coroutine, Module, typeAt, kindWord, isFunc, noSig, sigOf}
 use Rattle.imports.specs.Params.{isSignature, signatureFaults, sigParams, sigResults}
 use Rattle.signatures.specs.Signature.{HasSig}
 
@@ -71,3 +71,13 @@ module _ (m : Module) (t : ℕ) where
   pub results-sig : 0 < length (sigResults m t) → HasSig m t
   unfolding sigResults noSig
   results-sig h = part-sig (λ s. s .results) refl h
+
+-- dyn has a word of its own
+pub dyn-word : (v : ValueType) → eqb (valueWord v) 12 ≡ isDyn v
+unfolding valueWord isDyn
+dyn-word (basic k) = refl
+dyn-word (ref t) = go (eqb (16 + t) 12) refl
+  where
+    go : (b : Bool) → eqb (16 + t) 12 ≡ b → eqb (16 + t) 12 ≡ false
+    go true e = absurd (let z : 16 + t ≡ 12 = eqb-true (16 + t) 12 e in omega arith)
+    go false e = e

@@ -11,7 +11,8 @@ use lib.ListN.{length, getD, drop, set, length-set, drop-of-length-le}
 use lib.Seq.{drop-cons, getD-set-same, getD-set-other}
 use borrow.Author.Tests.{eq-eqb, ne-eqb}
 use Rattle.lists.specs.Lists.{placesFrom}
-use Rattle.counting.specs.Counting.{count, tick, T-true}
+use Rattle.lists.specs.ListLaws.{T-true}
+use Rattle.counting.specs.Counting.{count, tick}
 use Rattle.counting.specs.Places.{count-places}
 use Rattle.region.specs.Region.{Off, Frame, wordAt}
 use Rattle.region.specs.RegionLaws.{frame-refl, frame-then}

@@ -21,6 +21,7 @@ use Rattle.reader.specs.ReaderLaws.{then-inv}
 use Rattle.reader.specs.StepLaws.{word-read}
 use Rattle.reader.specs.Value.{Whole, valueOf}
 use Rattle.reader.specs.ValueLaws.{whole-inv, got-whole, value-got, list-whole, list-value, list-within, many-first}
+use Rattle.reader.specs.SizeLaws.{word-takes, many-inside}
 use Rattle.sheet.specs.Module.{ValueType, dyn, Field, Method, struct, coroutine, Module}
 use Rattle.sheet.specs.Decode.{valueType, fieldOf, methodOf, structType}
 use Rattle.layout.specs.Opened.{moduleIn}
@@ -29,7 +30,7 @@ use Rattle.opening.specs.Ready.{Opens}
 use Rattle.types.specs.Types.{namedSlots, valueFaults, stringFaults, functionFaults, methodFaults, structFaults, typeFaults}
 use Rattle.judging.specs.Judging.{Judges, listFaults, judges-next, judges-stop, judges-whole}
 use Rattle.struct_rules.specs.Parts.{noField, noMethod, fieldTypeFaults, fieldNameFaults, namesFaults, fieldsFaults}
-use Rattle.value_rules.proofs.Sizes.{word-takes, field-takes, method-takes, many-inside, list-takes, many-front}
+use Rattle.value_rules.proofs.Sizes.{field-takes, method-takes, list-takes, many-front}
 use Rattle.value_rules.proofs.NumberRules.{string-number, function-number}
 
 -- ── a field: its name, then its type ──

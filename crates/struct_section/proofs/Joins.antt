@@ -1,6 +1,6 @@
 -- Words written one after the other, and what work keeps meanwhile.
 use Prim.Native.Nat.{ℕ, _+_, _*_, _≤_, _<_}
-use mathlib.Core.Path.{_≡_, sym, ap, ap₂, _∙_}
+use mathlib.Core.Path.{_≡_, sym, ap, _∙_}
 use mathlib.Core.List.{List, [], _∷_, _++_}
 use native.Mathlib.Omega.{arith}
 use lib.ListN.{length, length-append}
@@ -10,7 +10,7 @@ use Rattle.opening.specs.declared.Opened.{Opened}
 use Rattle.opening.specs.Ready.{Ready}
 use Rattle.opening.specs.ReadyLaws.{ready-below}
 use Rattle.writing.specs.Writing.{written}
-use Rattle.writing.specs.WritingLaws.{written-none, written-then, written-length}
+use Rattle.writing.specs.WritingLaws.{written-none, join-room, join-written, join-place}
 
 -- v is w with xs written from place at on, and p is the next place
 pub record Put (w : List ℕ) (at : ℕ) (xs v : List ℕ) (p : ℕ) : Type 0 where
@@ -35,20 +35,10 @@ module _ (w : List ℕ) (at : ℕ) (xs v : List ℕ) (p : ℕ) (x : Put w at xs 
 
   module _ (ys : List ℕ) (h : at + length (xs ++ ys) ≤ length w) where
     pub put-room : p + length ys ≤ length v
-    put-room =
-        omega (
-          arith,
-          x .next,
-          length-append xs ys,
-          ap length (x .done),
-          written-length w at xs (front-room (length w) at xs ys h),
-        )
+    put-room = join-room w at xs ys h v p (x .done) (x .next)
 
     pub put-then : (u : List ℕ) (q : ℕ) → Put v p ys u q → Put w at (xs ++ ys) u q
-    put-then u q y = record {
-      done = y .done ∙ ap₂ (λ l k. written l k ys) (x .done) (x .next) ∙ written-then w at xs ys (omega arith);
-      next = omega (arith, x .next, y .next, length-append xs ys);
-    }
+    put-then u q y = record { done = join-written w at xs ys h v p (x .done) (x .next) (y .done); next = join-place w at xs ys h v p (x .done) (x .next) (y .next) }
 
 -- ── work ──
 

@@ -9,17 +9,17 @@ use Rattle.blocks.specs.Blocks.{words}
 use Rattle.blocks.specs.Frame.{firstWords}
 use Rattle.reader.specs.declared.Step.{Step}
 use Rattle.reader.specs.declared.Step.the-variants.{Next, Broken}
-use Rattle.reader.specs.Reader.{Got, broken, got, Reader, andThen, _>>=_, pure, fail, word, many, listOf}
+use Rattle.reader.specs.Reader.{Got, broken, got, Reader, andThen, fail, word, many, listOf}
 use Rattle.reader.specs.Step.{stepOf}
 use Rattle.reader.specs.StepLaws.{word-read, word-none, beyond, arrived, stuck, make}
 use Rattle.reader.specs.AlikeLaws.{two-on}
-use Rattle.reader.specs.RecordSteps.{Sized, sized-next, sized-end, sized-list}
+use Rattle.reader.specs.RecordSteps.{Sized, sized-two, sized-list}
 use Rattle.sheet.specs.Module.{ValueType, Method, TypeDef, func, coroutine, cell, iter}
 use Rattle.sheet.specs.Decode.{valueType, fieldOf, methodOf, funcType, structType, ofOne, ofTwo, typeBodies, typeDef}
 
 method-sized : Sized methodOf 2
 unfolding methodOf
-method-sized = sized-next (λ a. word >>= (λ f. pure (record { name = a; func = f }))) λ a. sized-next (λ f. pure (record { name = a; func = f })) λ f. sized-end _
+method-sized = sized-two λ a f. record { name = a; func = f }
 
 module _ (bytes : List ℕ) (n at : ℕ) where
   -- ── value types ──

@@ -24,16 +24,17 @@ use Rattle.reader.specs.ReaderLaws.{then-inv}
 use Rattle.reader.specs.StepLaws.{word-read, word-none, beyond}
 use Rattle.reader.specs.Value.{Whole, valueOf}
 use Rattle.reader.specs.ValueLaws.{whole-inv, got-whole, not-whole, value-got, list-within}
-use Rattle.sheet.specs.Module.{ValueType, dyn, TypeDef, func, cell, iter, coroutine, Module}
+use Rattle.sheet.specs.Module.{ValueType, dyn, TypeDef, func, cell, iter, coroutine, Module, typeAt}
 use Rattle.sheet.specs.Decode.{valueType, funcType, structType, ofOne, ofTwo, typeBodies, typeDef}
+use Rattle.sheet.specs.SizeLaws.{value-takes}
 use Rattle.layout.specs.Opened.{moduleIn}
 use Rattle.opening.specs.declared.Opened.{Opened}
 use Rattle.opening.specs.Ready.{Ready, posAt}
-use Rattle.opening.specs.ReadyLaws.{count-types, types-in, entry-room, entry-whole, entry-value}
+use Rattle.opening.specs.ReadyLaws.{count-types, types-in, type-value}
 use Rattle.types.specs.Types.{valueFaults, sigFaults, typeFaults, typesFaults}
 use Rattle.judging.specs.Judging.{listFaults}
 use Rattle.judging.specs.Clearing.{Clears, clears-start, clears-holds, clears-pass, clears-stop}
-use Rattle.value_rules.proofs.Sizes.{value-takes, list-takes}
+use Rattle.value_rules.proofs.Sizes.{list-takes}
 use Rattle.value_rules.proofs.ValueRules.{value-in}
 
 -- ── a func type: parameters, results ──
@@ -231,28 +232,19 @@ module _ (ws w : List ℕ) (o : Opened) (x : Ready ws w o) (i : ℕ) where
       clears-holds (λ j. typeFaults (moduleIn ws)) (moduleIn ws .types) i (y .clear) (omega (arith, count-types ws o (x .opens)))
       ∙ sym (ap verdictOf (concatMap-from 0 (typeFaults (moduleIn ws)) (moduleIn ws .types)))
 
-  module _ (h : i < o .counts .types) where
-    pub type-room : o .index .types + i < length w
-    type-room = entry-room typeDef ws (moduleIn ws .types) w (o .index .types) (x .types) i (types-in ws w o x i h)
+  module _ (h : i < o .counts .types) {p : ℕ} (e : p ≡ posAt w (o .index .types) i) (y : Cleared (moduleIn ws) i) {r : Verdict}
+      (k : r ≡ verdictOf (typeFaults (moduleIn ws) (valueOf coroutine (typeDef ws p)))) where
+    at-number : r ≡ verdictOf (typeFaults (moduleIn ws) (getD (moduleIn ws .types) i coroutine))
+    unfolding typeAt
+    at-number = k ∙ ap (λ d. verdictOf (typeFaults (moduleIn ws) d)) (type-value ws w o x i h e)
 
-    module _ {p : ℕ} (e : p ≡ posAt w (o .index .types) i) where
-      pub type-there : Whole (typeDef ws p)
-      type-there = rw e (entry-whole typeDef ws (moduleIn ws .types) w (o .index .types) (x .types) coroutine i (types-in ws w o x i h))
+    pub cleared-next : r ≡ Holds → Cleared (moduleIn ws) (i + 1)
+    cleared-next z = record { clear = clears-pass (λ j. typeFaults (moduleIn ws)) (moduleIn ws .types) i (y .clear) coroutine (types-in ws w o x i h) z at-number }
 
-      type-value : valueOf coroutine (typeDef ws p) ≡ getD (moduleIn ws .types) i coroutine
-      type-value = rw e (entry-value typeDef ws (moduleIn ws .types) w (o .index .types) (x .types) coroutine i (types-in ws w o x i h))
-
-      module _ (y : Cleared (moduleIn ws) i) {r : Verdict} (k : r ≡ verdictOf (typeFaults (moduleIn ws) (valueOf coroutine (typeDef ws p)))) where
-        at-number : r ≡ verdictOf (typeFaults (moduleIn ws) (getD (moduleIn ws .types) i coroutine))
-        at-number = k ∙ ap (λ d. verdictOf (typeFaults (moduleIn ws) d)) type-value
-
-        pub cleared-next : r ≡ Holds → Cleared (moduleIn ws) (i + 1)
-        cleared-next z = record { clear = clears-pass (λ j. typeFaults (moduleIn ws)) (moduleIn ws .types) i (y .clear) coroutine (types-in ws w o x i h) z at-number }
-
-        pub cleared-stop : {b : LoadErrorKind} → r ≡ Broken b → Broken b ≡ verdictOf (concatMap (typeFaults (moduleIn ws)) (moduleIn ws .types))
-        cleared-stop z =
-            clears-stop (λ j. typeFaults (moduleIn ws)) (moduleIn ws .types) i (y .clear) coroutine (types-in ws w o x i h) z at-number
-            ∙ sym (ap verdictOf (concatMap-from 0 (typeFaults (moduleIn ws)) (moduleIn ws .types)))
+    pub cleared-stop : {b : LoadErrorKind} → r ≡ Broken b → Broken b ≡ verdictOf (concatMap (typeFaults (moduleIn ws)) (moduleIn ws .types))
+    cleared-stop z =
+        clears-stop (λ j. typeFaults (moduleIn ws)) (moduleIn ws .types) i (y .clear) coroutine (types-in ws w o x i h) z at-number
+        ∙ sym (ap verdictOf (concatMap-from 0 (typeFaults (moduleIn ws)) (moduleIn ws .types)))
 
 pub types-judged : (m : Module) {v : Verdict} {r : Judged} → v ≡ verdictOf (concatMap (typeFaults m) (m .types)) → r ≡ placed inModule v → r ≡ judgedOf (typesFaults m)
 unfolding typesFaults

@@ -19,7 +19,7 @@ use Rattle.region.specs.Region.{Frame}
 use Rattle.region.specs.RegionLaws.{frame-refl}
 use Rattle.opening.specs.declared.Opened.{Opened}
 use Rattle.opening.specs.Ready.{Ready, posAt}
-use Rattle.opening.specs.ReadyLaws.{count-types, types-in, entry-room, entry-whole, entry-value}
+use Rattle.opening.specs.ReadyLaws.{count-types, types-in, entry-whole, type-value}
 use Rattle.table.specs.Records.{typeBody, typeRecord}
 use Rattle.writing.specs.Writing.{wordsOf, Writes}
 use Rattle.writing.specs.WritingLaws.{words-are, written-length, writes-start, writes-next, writes-end, writes-place, writes-length, writes-room}
@@ -31,20 +31,13 @@ use Rattle.type_section.proofs.KindSteps.{type-kind}
 -- ── type t ──
 
 module _ (ws w : List ℕ) (o : Opened) (x : Ready ws w o) (t : ℕ) (h : t < o .counts .types) where
-  pub type-room : o .index .types + t < length w
-  type-room = entry-room typeDef ws (moduleIn ws .types) w (o .index .types) (x .types) t (types-in ws w o x t h)
-
   module _ {q : ℕ} (e : q ≡ posAt w (o .index .types) t) where
-    type-is : valueOf coroutine (typeDef ws q) ≡ typeAt (moduleIn ws .types) t
-    unfolding typeAt
-    type-is = rw e (entry-value typeDef ws (moduleIn ws .types) w (o .index .types) (x .types) coroutine t (types-in ws w o x t h))
-
     pub type-sound : typesFaults (moduleIn ws) ≡ [] → Sound typeDef coroutine typeFaults ws q
     unfolding typesFaults typeAt
     type-sound f = record {
       whole = rw e (entry-whole typeDef ws (moduleIn ws .types) w (o .index .types) (x .types) coroutine t (types-in ws w o x t h));
       holds =
-          ap (typeFaults (moduleIn ws)) type-is
+          ap (typeFaults (moduleIn ws)) (type-value ws w o x t h e)
           ∙ every coroutine (typeFaults (moduleIn ws)) (moduleIn ws .types) .0
           (map-empty inModule (concatMap (typeFaults (moduleIn ws)) (moduleIn ws .types)) .0 f) t (types-in ws w o x t h);
     }
@@ -58,7 +51,7 @@ module _ (b w : List ℕ) (o : Opened) (x : Ready (firstWords b (o .layout .word
   unfolding bodyAt typeRecord
   record-is =
       ap (λ j. j ∷ typeBody (moduleIn ws) (valueOf coroutine (typeDef ws q))) (type-kind b (o .layout .words) q (type-sound ws w o x t h e f) i)
-      ∙ ap (typeRecord (moduleIn ws)) (type-is ws w o x t h e)
+      ∙ ap (typeRecord (moduleIn ws)) (type-value ws w o x t h e)
 
   module _ (u : List ℕ) (a : ℕ) (l : a + length (typeRecord (moduleIn ws) (typeAt (moduleIn ws .types) t)) ≤ length u) where
     record-room : a + length ((k ∷ []) ++ bodyAt ws q) ≤ length u

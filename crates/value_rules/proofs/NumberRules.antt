@@ -17,13 +17,13 @@ use Rattle.reader.specs.Reader.{word, listOf}
 use Rattle.reader.specs.StepLaws.{word-read}
 use Rattle.reader.specs.Value.{valueOf}
 use Rattle.reader.specs.ValueLaws.{value-got}
+use Rattle.reader.specs.SizeLaws.{word-takes, many-inside}
 use Rattle.layout.specs.Opened.{moduleIn}
 use Rattle.opening.specs.declared.Opened.{Opened}
 use Rattle.opening.specs.Ready.{Opens}
 use Rattle.opening.specs.ReadyLaws.{count-strings, count-types, count-funcs}
 use Rattle.types.specs.Types.{stringFaults, functionFaults}
 use Rattle.judging.specs.Judging.{Judges, listFaults, judges-next, judges-stop}
-use Rattle.value_rules.proofs.Sizes.{word-takes, many-inside}
 
 -- ── a number, judged by the count that was opened ──
 

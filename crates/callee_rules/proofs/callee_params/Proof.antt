@@ -1,11 +1,12 @@
 -- `inst_rules::callees/callee_params` meets its contract.
 use borrow.Author.Needs.{needs}
-use Rattle.callee_rules.proofs.CalleeSteps.{callee-room, callee-params}
+use Rattle.opening.specs.ReadyLaws.{func-room}
+use Rattle.callee_rules.proofs.CalleeSteps.{callee-params}
 use Rattle.callee_rules.proofs.callee_params.Statement.{statement}
 use Rattle.callee_rules.proofs.callee_params.Tie as tie
 
 func-at-requires : tie.Need-func-at-requires
-func-at-requires c κs = callee-room _ _ _ (c .before .before .pre .0) _ (c .before .before .pre .1)
+func-at-requires c κs = func-room _ _ _ (c .before .before .pre .0) _ (c .before .before .pre .1)
 
 word-requires : tie.Need-word-requires
 word-requires c κs = search needs

@@ -1,6 +1,7 @@
 -- `inst_rules::callees/check_direct` meets its contract.
 use borrow.Author.Needs.{needs}
-use Rattle.callee_rules.proofs.CalleeSteps.{callee-place, direct-window, direct-arity, direct-captures}
+use Rattle.opening.specs.ReadyLaws.{captures-room}
+use Rattle.callee_rules.proofs.CalleeSteps.{direct-window, direct-arity, direct-captures}
 use Rattle.callee_rules.proofs.check_direct.Statement.{statement}
 use Rattle.callee_rules.proofs.check_direct.Tie as tie
 
@@ -32,7 +33,7 @@ returns-2 : tie.Need-returns-2
 returns-2 c = search (needs, direct-arity)
 
 capture-count-requires : tie.Need-capture-count-requires
-capture-count-requires c κs = callee-place _ _ _ (c .before .before .before .before .before .before .before .before .before .pre .0 .ready) _ (c .before .before .before .before .before .before .before .before .before .pre .1 .0)
+capture-count-requires c κs = captures-room _ _ _ (c .before .before .before .before .before .before .before .before .before .pre .0 .ready) _ (c .before .before .before .before .before .before .before .before .before .pre .1 .0)
 
 check-captures-requires : tie.Need-check-captures-requires
 check-captures-requires c κs = search needs

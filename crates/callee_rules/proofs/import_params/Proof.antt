@@ -1,7 +1,9 @@
 -- `inst_rules::callees/import_params` meets its contract.
 use borrow.Author.Needs.{needs}
 use native.Mathlib.Omega.{arith}
-use Rattle.callee_rules.proofs.CalleeSteps.{import-room, import-within, import-params}
+use Rattle.opening.specs.ReadyLaws.{import-room}
+use Rattle.opening.specs.MemberLaws.{import-within}
+use Rattle.callee_rules.proofs.CalleeSteps.{import-params}
 use Rattle.callee_rules.proofs.import_params.Statement.{statement}
 use Rattle.callee_rules.proofs.import_params.Tie as tie
 

@@ -1,6 +1,7 @@
 -- `end_rules::check_start_function` meets its contract.
 use borrow.Author.Needs.{needs}
-use Rattle.end_rules.proofs.StartSteps.{captures-room, bad-start, start-holds, start-captures, start-missing}
+use Rattle.opening.specs.ReadyLaws.{captures-room}
+use Rattle.end_rules.proofs.StartSteps.{bad-start, start-holds, start-captures, start-missing}
 use Rattle.end_rules.proofs.check_start_function.Statement.{statement}
 use Rattle.end_rules.proofs.check_start_function.Tie as tie
 

@@ -1,6 +1,7 @@
 -- `end_rules::is_start` meets its contract.
 use borrow.Author.Needs.{needs}
-use Rattle.end_rules.proofs.StartSteps.{func-room, start-both, start-takes}
+use Rattle.opening.specs.ReadyLaws.{func-room}
+use Rattle.end_rules.proofs.StartSteps.{start-both, start-takes}
 use Rattle.end_rules.proofs.is_start.Statement.{statement}
 use Rattle.end_rules.proofs.is_start.Tie as tie
 

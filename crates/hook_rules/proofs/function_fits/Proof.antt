@@ -1,6 +1,7 @@
 -- `hook_rules::function_fits` meets its contract.
 use borrow.Author.Needs.{needs}
-use Rattle.hook_rules.proofs.BoundSteps.{func-room, captures-room, function-fits, function-captures}
+use Rattle.opening.specs.ReadyLaws.{func-room, captures-room}
+use Rattle.hook_rules.proofs.BoundSteps.{function-fits, function-captures}
 use Rattle.hook_rules.proofs.function_fits.Statement.{statement}
 use Rattle.hook_rules.proofs.function_fits.Tie as tie
 

@@ -1,7 +1,9 @@
 -- `hook_rules::import_fits` meets its contract.
 use borrow.Author.Needs.{needs}
 use native.Mathlib.Omega.{arith}
-use Rattle.hook_rules.proofs.BoundSteps.{import-room, import-within, import-fits}
+use Rattle.opening.specs.ReadyLaws.{import-room}
+use Rattle.opening.specs.MemberLaws.{import-within}
+use Rattle.hook_rules.proofs.BoundSteps.{import-fits}
 use Rattle.hook_rules.proofs.import_fits.Statement.{statement}
 use Rattle.hook_rules.proofs.import_fits.Tie as tie
 

@@ -1,6 +1,7 @@
 -- `import_rules::import_module` meets its contract.
 use borrow.Author.Needs.{needs}
-use Rattle.import_rules.proofs.ImportWords.{import-room, import-first}
+use Rattle.opening.specs.ReadyLaws.{import-room}
+use Rattle.import_rules.proofs.ImportWords.{import-first}
 use Rattle.import_rules.proofs.import_module.Statement.{statement}
 use Rattle.import_rules.proofs.import_module.Tie as tie
 

@@ -1,7 +1,9 @@
 -- `import_rules::import_name` meets its contract.
 use borrow.Author.Needs.{needs}
 use native.Mathlib.Omega.{arith}
-use Rattle.import_rules.proofs.ImportWords.{import-room, import-within, import-second}
+use Rattle.opening.specs.ReadyLaws.{import-room}
+use Rattle.opening.specs.MemberLaws.{import-within}
+use Rattle.import_rules.proofs.ImportWords.{import-second}
 use Rattle.import_rules.proofs.import_name.Statement.{statement}
 use Rattle.import_rules.proofs.import_name.Tie as tie
 

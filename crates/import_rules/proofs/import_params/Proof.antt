@@ -1,7 +1,9 @@
 -- `import_rules::import_params` meets its contract.
 use borrow.Author.Needs.{needs}
 use native.Mathlib.Omega.{arith}
-use Rattle.import_rules.proofs.ImportWords.{import-room, import-within, import-list, import-listed}
+use Rattle.opening.specs.ReadyLaws.{import-room}
+use Rattle.opening.specs.MemberLaws.{import-within}
+use Rattle.import_rules.proofs.ImportWords.{import-list, import-listed}
 use Rattle.import_rules.proofs.import_params.Statement.{statement}
 use Rattle.import_rules.proofs.import_params.Tie as tie
 

@@ -1,7 +1,9 @@
 -- `import_rules::import_sig` meets its contract.
 use borrow.Author.Needs.{needs}
 use native.Mathlib.Omega.{arith}
-use Rattle.import_rules.proofs.ImportWords.{import-room, import-within, import-third}
+use Rattle.opening.specs.ReadyLaws.{import-room}
+use Rattle.opening.specs.MemberLaws.{import-within}
+use Rattle.import_rules.proofs.ImportWords.{import-third}
 use Rattle.import_rules.proofs.import_sig.Statement.{statement}
 use Rattle.import_rules.proofs.import_sig.Tie as tie
 

@@ -1,8 +1,9 @@
 -- `parent_rules::chain_length` meets its contract: the limit that is left falls.
 use borrow.Author.Needs.{needs}
 use native.Mathlib.Omega.{arith}
+use Rattle.opening.specs.ReadyLaws.{kept-same}
 use Rattle.parent_rules.proofs.ChainSteps.{chain-spent, chain-root, chain-up, chain-small}
-use Rattle.parent_rules.proofs.LengthSteps.{kept-same, kept-noting, lengths-ready, lengths-room, chain-known, child-room, child-noted}
+use Rattle.parent_rules.proofs.LengthSteps.{kept-noting, lengths-ready, lengths-room, chain-known, child-room, child-noted}
 use Prim.Native.Nat.{ℕ, _<_}
 use borrow.Fn.Kinds.{In}
 use borrow.Fn.PlainCycle.{Measures, is, falls, and}

@@ -1,7 +1,8 @@
 -- `parent_rules::check_parents` meets its contract.
 use borrow.Author.Needs.{needs}
 use native.Mathlib.Omega.{arith}
-use Rattle.parent_rules.proofs.LengthSteps.{kept-then, free-room, fill-kept, fill-remembers}
+use Rattle.opening.specs.ReadyLaws.{kept-then}
+use Rattle.parent_rules.proofs.LengthSteps.{free-room, fill-kept, fill-remembers}
 use Rattle.parent_rules.proofs.ScanSteps.{parents-judged}
 use Rattle.parent_rules.proofs.check_parents.Statement.{statement}
 use Rattle.parent_rules.proofs.check_parents.Tie as tie

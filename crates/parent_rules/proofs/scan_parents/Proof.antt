@@ -4,7 +4,7 @@ use borrow.Author.Needs.{needs}
 use native.Mathlib.Omega.{arith}
 use Rattle.blocks.specs.Frame.{firstWords}
 use Rattle.layout.specs.Opened.{moduleIn}
-use Rattle.parent_rules.proofs.LengthSteps.{kept-then}
+use Rattle.opening.specs.ReadyLaws.{kept-then}
 use Rattle.parent_rules.proofs.ScanSteps.{Passes, Compares, pass-start, pass-length, pass-ready, pass-skip, unfit-stop, compare-start, in-parent, in-child, compare-next, compare-stop, pass-next, deep-stop, pass-end}
 use Rattle.parent_rules.proofs.scan_parents.Statement.{statement}
 use Rattle.parent_rules.proofs.scan_parents.Tie as tie

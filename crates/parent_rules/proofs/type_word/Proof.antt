@@ -1,7 +1,8 @@
 -- `parent_rules::type_word` meets its contract.
 use borrow.Author.Needs.{needs}
 use native.Mathlib.Omega.{arith}
-use Rattle.parent_rules.proofs.TypeWords.{type-room, word-small, word-is}
+use Rattle.opening.specs.ReadyLaws.{type-room}
+use Rattle.parent_rules.proofs.TypeWords.{word-small, word-is}
 use Rattle.parent_rules.proofs.type_word.Statement.{statement}
 use Rattle.parent_rules.proofs.type_word.Tie as tie
 

@@ -2,8 +2,8 @@
 use borrow.Author.Needs.{needs}
 use Rattle.rules.proofs.check_front.Statement.{statement}
 use Rattle.rules.proofs.check_front.Tie as tie
-use Rattle.opening.specs.ReadyLaws.{ready-kept}
-use Rattle.rules.proofs.OrderSteps.{front-order, kept-then}
+use Rattle.opening.specs.ReadyLaws.{ready-kept, kept-then}
+use Rattle.rules.proofs.OrderSteps.{front-order}
 
 check-types-requires : tie.Need-check-types-requires
 check-types-requires c κs = search (needs, front-order)

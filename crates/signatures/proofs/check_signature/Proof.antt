@@ -1,6 +1,7 @@
 -- `signatures::check_signature` meets its contract.
 use borrow.Author.Needs.{needs}
-use Rattle.signatures.proofs.SigSteps.{type-room, type-whole, signature-holds, signature-broken, type-missing}
+use Rattle.opening.specs.ReadyLaws.{type-room, type-whole}
+use Rattle.signatures.proofs.SigSteps.{signature-holds, signature-broken, type-missing}
 use Rattle.signatures.proofs.check_signature.Statement.{statement}
 use Rattle.signatures.proofs.check_signature.Tie as tie
 

@@ -1,6 +1,7 @@
 -- `signatures::param_count` meets its contract.
 use borrow.Author.Needs.{needs}
-use Rattle.signatures.proofs.SigSteps.{type-room, type-whole, type-params, missing-params}
+use Rattle.opening.specs.ReadyLaws.{type-room, type-whole}
+use Rattle.signatures.proofs.SigSteps.{type-params, missing-params}
 use Rattle.signatures.proofs.param_count.Statement.{statement}
 use Rattle.signatures.proofs.param_count.Tie as tie
 

@@ -1,6 +1,7 @@
 -- `signatures::result_count` meets its contract.
 use borrow.Author.Needs.{needs}
-use Rattle.signatures.proofs.SigSteps.{type-room, type-whole, type-results, missing-results}
+use Rattle.opening.specs.ReadyLaws.{type-room, type-whole}
+use Rattle.signatures.proofs.SigSteps.{type-results, missing-results}
 use Rattle.signatures.proofs.result_count.Statement.{statement}
 use Rattle.signatures.proofs.result_count.Tie as tie
 

@@ -5,7 +5,8 @@ use Prim.Native.Nat.{_-_}
 use Rattle.blocks.specs.Frame.{firstWords}
 use Rattle.layout.specs.Opened.{moduleIn}
 use Rattle.opening.specs.Ready.{Ready}
-use Rattle.type_rules.proofs.KindRules.{Cleared, cleared-start, cleared-end, type-room, type-there, cleared-next, cleared-stop}
+use Rattle.opening.specs.ReadyLaws.{type-room, type-whole}
+use Rattle.type_rules.proofs.KindRules.{Cleared, cleared-start, cleared-end, cleared-next, cleared-stop}
 use Rattle.type_rules.proofs.all_types.Statement.{statement}
 use Rattle.type_rules.proofs.all_types.Tie as tie
 
@@ -16,34 +17,34 @@ abbrev μ-loop : tie.MeasureT-loop
 μ-loop sheet work o i₀ i = o .counts .types - i
 
 loop-holds : tie.Need-loop-holds Inv-loop μ-loop
-loop-holds c = search (needs, cleared-start, cleared-end, type-room, type-there, cleared-next, cleared-stop)
+loop-holds c = search (needs, cleared-start, cleared-end, type-room, type-whole, cleared-next, cleared-stop)
 
 type-at-requires : tie.Need-type-at-requires Inv-loop μ-loop
-type-at-requires c κs = search (needs, cleared-start, cleared-end, type-room, type-there, cleared-next, cleared-stop)
+type-at-requires c κs = search (needs, cleared-start, cleared-end, type-room, type-whole, cleared-next, cleared-stop)
 
 check-type-requires : tie.Need-check-type-requires Inv-loop μ-loop
-check-type-requires c κs = search (needs, cleared-start, cleared-end, type-room, type-there, cleared-next, cleared-stop)
+check-type-requires c κs = search (needs, cleared-start, cleared-end, type-room, type-whole, cleared-next, cleared-stop)
 
 enum-told : tie.Need-enum-told Inv-loop μ-loop
-enum-told c = search (needs, cleared-start, cleared-end, type-room, type-there, cleared-next, cleared-stop)
+enum-told c = search (needs, cleared-start, cleared-end, type-room, type-whole, cleared-next, cleared-stop)
 
 enum-known-k : tie.Need-enum-known-k Inv-loop μ-loop
-enum-known-k c = search (needs, cleared-start, cleared-end, type-room, type-there, cleared-next, cleared-stop)
+enum-known-k c = search (needs, cleared-start, cleared-end, type-room, type-whole, cleared-next, cleared-stop)
 
 returns : tie.Need-returns Inv-loop μ-loop
-returns c = search (needs, cleared-start, cleared-end, type-room, type-there, cleared-next, cleared-stop)
+returns c = search (needs, cleared-start, cleared-end, type-room, type-whole, cleared-next, cleared-stop)
 
 add-i : tie.Need-add-i Inv-loop μ-loop
-add-i c = search (needs, cleared-start, cleared-end, type-room, type-there, cleared-next, cleared-stop)
+add-i c = search (needs, cleared-start, cleared-end, type-room, type-whole, cleared-next, cleared-stop)
 
 loop-less : tie.Need-loop-less Inv-loop μ-loop
-loop-less c = search (needs, cleared-start, cleared-end, type-room, type-there, cleared-next, cleared-stop)
+loop-less c = search (needs, cleared-start, cleared-end, type-room, type-whole, cleared-next, cleared-stop)
 
 loop-again : tie.Need-loop-again Inv-loop μ-loop
-loop-again c = search (needs, cleared-start, cleared-end, type-room, type-there, cleared-next, cleared-stop)
+loop-again c = search (needs, cleared-start, cleared-end, type-room, type-whole, cleared-next, cleared-stop)
 
 returns-2 : tie.Need-returns-2 Inv-loop μ-loop
-returns-2 c = search (needs, cleared-start, cleared-end, type-room, type-there, cleared-next, cleared-stop)
+returns-2 c = search (needs, cleared-start, cleared-end, type-room, type-whole, cleared-next, cleared-stop)
 
 pub all-types-spec : {M : Type 1} → statement M
 all-types-spec =

@@ -1,7 +1,8 @@
 -- `type_section::write_type` meets its contract.
 use borrow.Author.Needs.{needs}
 use Rattle.struct_section.proofs.Joins.{put, put-one}
-use Rattle.type_section.proofs.TypeSteps.{type-room, type-sound, kind-room, body-room, type-put}
+use Rattle.opening.specs.ReadyLaws.{type-room}
+use Rattle.type_section.proofs.TypeSteps.{type-sound, kind-room, body-room, type-put}
 use Rattle.type_section.proofs.write_type.Statement.{statement}
 use Rattle.type_section.proofs.write_type.Tie as tie
 

@@ -1,11 +1,12 @@
 -- `inst_rules::kinds/type_kind` meets its contract.
 use borrow.Author.Needs.{needs}
-use Rattle.callee_rules.proofs.KindSteps.{kind-room, kind-read, kind-none}
+use Rattle.opening.specs.ReadyLaws.{type-room}
+use Rattle.callee_rules.proofs.KindSteps.{kind-read, kind-none}
 use Rattle.callee_rules.proofs.kinds.type_kind.Statement.{statement}
 use Rattle.callee_rules.proofs.kinds.type_kind.Tie as tie
 
 type-at-requires : tie.Need-type-at-requires
-type-at-requires c κs = kind-room _ _ _ (c .before .before .before .before .before .pre) _ (c .if1 .taken)
+type-at-requires c κs = type-room _ _ _ (c .before .before .before .before .before .pre) _ (c .if1 .taken)
 
 word-requires : tie.Need-word-requires
 word-requires c κs = search needs

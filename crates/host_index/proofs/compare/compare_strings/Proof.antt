@@ -12,8 +12,8 @@ end-of-requires c κs = search needs
 end-of-requires-2 : tie.Need-end-of-requires-2
 end-of-requires-2 c κs = search needs
 
-compare-ranges-requires : tie.Need-compare-ranges-requires
-compare-ranges-requires c κs =
+compare-words-requires : tie.Need-compare-words-requires
+compare-words-requires c κs =
     let s = c .before .before .before .before in
     texts-room _ _ _ _ _ _ (s .pre .0) (s .pre .1) (c .before .end-of .ensures) (c .end-of2 .ensures)
     (all-bytes (s .args .one .now) (λ i. omega (arith, c .before .before .before .shared-slice-known .given i)))
@@ -25,8 +25,8 @@ returns c =
     texts-compared _ _ _ _ _ _ (s .pre .0) (s .pre .1) (c .before .before .end-of .ensures) (c .before .end-of2 .ensures)
     (all-bytes (s .args .one .now) (λ i. omega (arith, c .before .before .before .before .shared-slice-known .given i)))
     (all-bytes (s .args .other .now) (λ i. omega (arith, c .before .before .before .shared-slice-known2 .given i)))
-    (c .compare-ranges .ensures)
+    (c .compare-words .ensures)
 
 pub compare-strings-spec : {M : Type 1} → statement M
 compare-strings-spec =
-    tie.close (tie.spec end-of-requires end-of-requires-2 compare-ranges-requires returns)
+    tie.close (tie.spec end-of-requires end-of-requires-2 compare-words-requires returns)

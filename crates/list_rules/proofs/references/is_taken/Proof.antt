@@ -1,7 +1,8 @@
 -- `list_rules::references::is_taken` meets its contract.
 use borrow.Author.Needs.{needs}
 use native.Mathlib.Omega.{arith}
-use Rattle.list_rules.proofs.ReferenceSteps.{taken-plain, taken-absent, type-room, type-inside, taken-other, taken-cell}
+use Rattle.opening.specs.ReadyLaws.{type-room}
+use Rattle.list_rules.proofs.ReferenceSteps.{taken-plain, taken-absent, type-inside, taken-other, taken-cell}
 use Rattle.list_rules.proofs.references.is_taken.Statement.{statement}
 use Rattle.list_rules.proofs.references.is_taken.Tie as tie
 
