@@ -19,9 +19,9 @@ use Rattle.load.specs.Kinds.{kindNumber}
 use Rattle.load.specs.KindLaws.{early, opens, first-accepted, broken-sheet, broken-hosts, short-slice, refused-first, accepted}
 use Rattle.load.specs.SliceLaws.{beforeRules, untouched-table, table-written, work-untouched, work-zero}
 use Rattle.renumber.specs.Renumber.{renumber}
-use Rattle.renumbering.specs.Statement.{Family, Call, LongEnough, isAccepted, answers, accepts, leaves, Agree}
-use Rattle.renumbering.specs.Accepting.{family-left}
-use Rattle.renumbering.specs.Sheets.{renumbered-sheets}
+use Rattle.law_renumbering.specs.Statement.{Family, Call, LongEnough, isAccepted, answers, accepts, leaves, Agree}
+use Rattle.law_renumbering.specs.Accepting.{family-left}
+use Rattle.law_renumbering.specs.Sheets.{renumbered-sheets}
 use Rattle.calls.specs.Calls.{Loads, isEarly, Verdict, Slices, RefusesRight, FamilyAsked, FamilyRight, NotShort, AgreeAsked, NumberingFree}
 
 -- ── the family ──

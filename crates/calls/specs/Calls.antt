@@ -20,9 +20,9 @@ use Rattle.parents.specs.Parents.{mostOnChain}
 use Rattle.table.specs.Table.{tableWords}
 use Rattle.descends.specs.Descends.{descends}
 use Rattle.load.specs.Load.{moduleFaults, longEnough, load, tableAfter, workAfter}
-use Rattle.linked.specs.Find.{hooksIn, canonIn, catchIn}
+use Rattle.law_linked.specs.Find.{hooksIn, canonIn, catchIn}
 use Rattle.renumber.specs.Renumber.{image, renumber}
-use Rattle.renumbering.specs.Statement.{Descendant, isAccepted, RenumberedSheet}
+use Rattle.law_renumbering.specs.Statement.{Descendant, isAccepted, RenumberedSheet}
 
 -- ── calls ──
 

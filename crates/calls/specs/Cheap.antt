@@ -9,7 +9,7 @@ use Rattle.sheet.specs.Encode.{sheetOf}
 use Rattle.host.specs.Host.{hostsOf}
 use Rattle.descends.specs.Descends.{descends}
 use Rattle.load.specs.Load.{load, tableAfter}
-use Rattle.everything.specs.Everything.{everything}
+use Rattle.law_everything.specs.Everything.{everything}
 use Rattle.calls.specs.Calls.{NoConstant, NoIdle}
 
 -- an empty sheet and an empty host list

@@ -1,9 +1,9 @@
 // Prints of each file that the arguments name whether it is an intact sheet, and then N and the counts of its parts:
 // strings, types, constants, imports, globals, functions, hooks, start + 1, exports.
 use blocks::word;
-use layout::Checked;
-use layout::Layout;
 use libc::STDOUT_FILENO;
+use open_layout::Checked;
+use open_layout::Layout;
 
 fn print_count(n: u64) {
     io::write_all(STDOUT_FILENO, b" ");
@@ -29,7 +29,7 @@ fn print_counts(sheet: &[u8], l: Layout) {
 }
 
 fn report(sheet: &[u8]) {
-    match layout::check_sheet(sheet) {
+    match open_layout::check_sheet(sheet) {
         Checked::Intact(l) => {
             print_counts(sheet, l);
         }

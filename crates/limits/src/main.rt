@@ -1,10 +1,10 @@
 // A sheet of the most blocks, 4,096, is intact; the like of one block more is broken.
 ghost use Prim.Native.Nat.{_<_};
-use layout::Checked;
 use libc::STDOUT_FILENO;
+use open_layout::Checked;
 
 fn report(sheet: &[u8]) {
-    match layout::check_sheet(sheet) {
+    match open_layout::check_sheet(sheet) {
         Checked::Intact(l) => {
             io::write_all(STDOUT_FILENO, b"intact\n");
         }

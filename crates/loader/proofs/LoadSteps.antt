@@ -14,24 +14,24 @@ use Rattle.error.specs.declared.Loaded.the-variants.{Refused}
 use Rattle.error.specs.Answer.{inModule}
 use Rattle.sheet.specs.SheetLaws.{decode-length}
 use Rattle.host.specs.Listed.{listedOf, hostsIn}
-use Rattle.host_index.specs.Sorted.{SortedHosts}
-use Rattle.layout.specs.declared.Layout.{Layout}
-use Rattle.layout.specs.Layout.{layout, checkedOf}
-use Rattle.layout.specs.LayoutLaws.{Located}
-use Rattle.layout.specs.Opened.{moduleIn}
+use Rattle.open_hosts.specs.Sorted.{SortedHosts}
+use Rattle.open_layout.specs.declared.Layout.{Layout}
+use Rattle.open_layout.specs.Layout.{layout, checkedOf}
+use Rattle.open_layout.specs.LayoutLaws.{Located}
+use Rattle.open_layout.specs.Opened.{moduleIn}
 use Rattle.parents.specs.Parents.{mostOnChain}
-use Rattle.opening.specs.declared.Opened.{Opened}
+use Rattle.open_sheet.specs.declared.Opened.{Opened}
 use Rattle.table.specs.TableLaws.{table-few}
 use Rattle.load.specs.Load as load
 use Rattle.load.specs.Load.{refused, opened, opening, answer, load, tableThen, tableAfter, workThen, workAfter}
 use Rattle.load.specs.LoadLaws.{opening-inv, linked-fits}
-use Rattle.inputs.specs.declared.Inputs.{Inputs}
-use Rattle.inputs.specs.declared.Inputs.the-variants as Inputs
-use Rattle.inputs.specs.Inputs.{inputsOf}
-use Rattle.inputs.specs.Indexed.{IndexedIf}
-use Rattle.inputs.specs.InputsLaws.{Admitted, inputs-refused, inputs-intact}
+use Rattle.open_inputs.specs.declared.Inputs.{Inputs}
+use Rattle.open_inputs.specs.declared.Inputs.the-variants as Inputs
+use Rattle.open_inputs.specs.Inputs.{inputsOf}
+use Rattle.open_inputs.specs.Indexed.{IndexedIf}
+use Rattle.open_inputs.specs.InputsLaws.{Admitted, inputs-refused, inputs-intact}
 use Rattle.rules.specs.OpenedLaws.{Zeroed}
-use Rattle.linking.specs.Linking.{Fits, answered, tableLeft}
+use Rattle.load_intact.specs.Linking.{Fits, answered, tableLeft}
 
 -- ── what is asked where the inputs are not refused ──
 

@@ -3,18 +3,18 @@ ghost use mathlib.Core.Path.{_≡_};
 ghost use Prim.Native.Nat.{_≤_, _<_};
 ghost use lib.ListN.{length, getD};
 ghost use Rattle.blocks.specs.Blocks.{words};
-ghost use Rattle.host_index.specs.Sorted.{Roomy};
+ghost use Rattle.open_hosts.specs.Sorted.{Roomy};
 ghost use Rattle.load.specs.Load.{load, tableAfter, workAfter};
 use blocks::word;
 use error::Judged;
 use error::Loaded;
-use inputs::Inputs;
-use inputs::check_inputs;
-use inputs::refuse;
-use layout::Layout;
-use linking::load_intact;
-use opening::Opened;
-use opening::open_sheet;
+use load_intact::load_intact;
+use open_inputs::Inputs;
+use open_inputs::check_inputs;
+use open_inputs::refuse;
+use open_layout::Layout;
+use open_sheet::Opened;
+use open_sheet::open_sheet;
 use region::fill;
 
 // As load, with words for the index of the host list.

@@ -12,7 +12,7 @@ use Rattle.error.specs.Verdict.{judgedOf}
 use Rattle.error.specs.VerdictLaws.{judged-then, judged-stop}
 use Rattle.sheet.specs.Module.{Func, Module}
 use Rattle.host.specs.Host.{HostFn}
-use Rattle.layout.specs.Opened.{moduleIn}
+use Rattle.open_layout.specs.Opened.{moduleIn}
 use Rattle.types.specs.Types.{typesFaults}
 use Rattle.parents.specs.Parents.{mostOnChain, parentsFaults}
 use Rattle.consts.specs.Consts.{mostDeep, constsFaults}
@@ -24,12 +24,12 @@ use Rattle.hooks.specs.Hooks.{hooksFaults, startFaults, exportsFaults}
 use Rattle.load.specs.Load.{moduleFaults}
 use Rattle.region.specs.Region.{wordAt, Off, Frame}
 use Rattle.region.specs.RegionLaws.{frame-then}
-use Rattle.opening.specs.declared.Opened.{Opened}
-use Rattle.opening.specs.Ready.{Opens, Ready, Kept, Captured}
-use Rattle.opening.specs.ReadyLaws.{count-funcs, funcs-inside, ready-below, ready-kept, kept-same}
-use Rattle.bodies.specs.Bodies.{Countable}
-use Rattle.code_rules.specs.Sweep.{Above}
-use Rattle.import_rules.specs.Links.{HostEntries, LinkedIf}
+use Rattle.open_sheet.specs.declared.Opened.{Opened}
+use Rattle.open_sheet.specs.Ready.{Opens, Ready, Kept, Captured}
+use Rattle.open_sheet.specs.ReadyLaws.{count-funcs, funcs-inside, ready-below, ready-kept, kept-same}
+use Rattle.rule_bodies.specs.Bodies.{Countable}
+use Rattle.rule7_code.specs.Sweep.{Above}
+use Rattle.rule5_imports.specs.Links.{HostEntries, LinkedIf}
 use Rattle.rules.specs.Groups.{frontFaults, recordFaults, endFaults, bodyFaults, LinksKept}
 use Rattle.rules.specs.GroupLaws.{in-groups, front-types, links-ready, links-linked, linked-refused}
 

@@ -4,7 +4,7 @@ use mathlib.Core.Path.{_≡_, refl, sym, ap, _∙_}
 use mathlib.Core.List.{List, [], _∷_, _++_, append-assoc}
 use native.Mathlib.Omega.{arith}
 use lib.ListN.{length}
-use Rattle.faults.specs.Empty.{append-empty}
+use Rattle.law_faults.specs.Empty.{append-empty}
 use Rattle.error.specs.declared.LoadError.{LoadError}
 use Rattle.error.specs.declared.Judged.{Judged}
 use Rattle.error.specs.declared.Judged.the-variants.{Passed, Refused}
@@ -12,7 +12,7 @@ use Rattle.error.specs.Verdict.{judgedOf}
 use Rattle.error.specs.VerdictLaws.{none-refused, judged-then, judged-stop}
 use Rattle.sheet.specs.Module.{Module}
 use Rattle.host.specs.Host.{HostFn}
-use Rattle.layout.specs.Opened.{moduleIn}
+use Rattle.open_layout.specs.Opened.{moduleIn}
 use Rattle.types.specs.Types.{typesFaults}
 use Rattle.parents.specs.Parents.{mostOnChain, parentsFaults}
 use Rattle.spans.specs.Spans.{walkFaults}
@@ -22,12 +22,12 @@ use Rattle.funcs.specs.Funcs.{funcsFaults}
 use Rattle.code.specs.Code.{codesFaults}
 use Rattle.hooks.specs.Hooks.{hooksFaults, startFaults, exportsFaults}
 use Rattle.load.specs.Load.{moduleFaults}
-use Rattle.forest.specs.Accepted.{walk-complete}
+use Rattle.law_forest.specs.Accepted.{walk-complete}
 use Rattle.region.specs.Region.{Frame}
-use Rattle.opening.specs.declared.Opened.{Opened}
-use Rattle.opening.specs.Ready.{Ready, Kept}
-use Rattle.opening.specs.ReadyLaws.{ready-below, imports-inside}
-use Rattle.import_rules.specs.Links.{HostEntries, LinkedIf}
+use Rattle.open_sheet.specs.declared.Opened.{Opened}
+use Rattle.open_sheet.specs.Ready.{Ready, Kept}
+use Rattle.open_sheet.specs.ReadyLaws.{ready-below, imports-inside}
+use Rattle.rule5_imports.specs.Links.{HostEntries, LinkedIf}
 use Rattle.rules.specs.Groups.{frontFaults, recordFaults, endFaults, bodyFaults, LinksKept}
 
 -- ── the order ──

@@ -12,7 +12,7 @@ use Rattle.funcs.specs.Funcs.{funcsFaults}
 use Rattle.code.specs.Code.{codesFaults}
 use Rattle.hooks.specs.Hooks.{hooksFaults, startFaults, exportsFaults}
 use Rattle.region.specs.Region.{Off, Frame}
-use Rattle.opening.specs.declared.Opened.{Opened}
+use Rattle.open_sheet.specs.declared.Opened.{Opened}
 
 -- types, parents, constants
 unfoldable pub frontFaults : Module → List LoadError

@@ -6,10 +6,10 @@ use native.Mathlib.Omega.{arith}
 use lib.ListN.{length, getD, replicate, length-replicate, getD-replicate}
 use lib.Seq.{ext-getD}
 use Rattle.blocks.specs.Frame.{firstWords}
-use Rattle.layout.specs.declared.Layout.{Layout}
+use Rattle.open_layout.specs.declared.Layout.{Layout}
 use Rattle.region.specs.Region.{wordAt, Off, Frame}
-use Rattle.opening.specs.declared.Opened.{Opened}
-use Rattle.opening.specs.Ready.{Ready}
+use Rattle.open_sheet.specs.declared.Opened.{Opened}
+use Rattle.open_sheet.specs.Ready.{Ready}
 
 -- as many zeros
 unfoldable pub Zeroed : List ℕ → List ℕ → Type 0

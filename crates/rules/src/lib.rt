@@ -5,32 +5,31 @@ ghost use Prim.Native.Nat.{_≤_};
 ghost use Rattle.blocks.specs.Frame.{firstWords};
 ghost use Rattle.error.specs.Verdict.{judgedOf};
 ghost use Rattle.host.specs.Listed.{hostsIn};
-ghost use Rattle.host_index.specs.Sorted.{SortedHosts};
-ghost use Rattle.layout.specs.Opened.{moduleIn};
-ghost use Rattle.opening.specs.Ready.{Ready, Captured, Kept};
+ghost use Rattle.open_hosts.specs.Sorted.{SortedHosts};
+ghost use Rattle.open_sheet.specs.Ready.{Ready, Captured, Kept, sheetWords, moduleOf};
 ghost use Rattle.types.specs.Types.{typesFaults};
 ghost use Rattle.parents.specs.Parents.{mostOnChain};
-ghost use Rattle.import_rules.specs.Links.{LinkedIf};
+ghost use Rattle.rule5_imports.specs.Links.{LinkedIf};
 ghost use Rattle.load.specs.Load.{moduleFaults};
 ghost use Rattle.rules.specs.Groups.{frontFaults, recordFaults, bodyFaults, endFaults, LinksKept};
-use bodies::index_captures;
-use code_rules::check_codes;
-use const_rules::check_consts;
-use end_rules::check_exports;
-use end_rules::check_start;
 use error::Judged;
-use func_rules::check_funcs;
-use global_rules::check_globals;
-use hook_rules::check_hooks;
-use import_rules::check_imports;
-use opening::Opened;
-use parent_rules::check_parents;
-use type_rules::check_types;
+use open_sheet::Opened;
+use rule_bodies::index_captures;
+use rule2_types::check_types;
+use rule3_parents::check_parents;
+use rule4_consts::check_consts;
+use rule5_globals::check_globals;
+use rule5_imports::check_imports;
+use rule6_funcs::check_funcs;
+use rule7_code::check_codes;
+use rule8_ends::check_exports;
+use rule8_ends::check_start;
+use rule8_hooks::check_hooks;
 
 // Types, parents with at most 256 on a chain, constants at most 64 deep; the first fault.
 fn check_front(sheet: &[u8], work: &mut [u32], o: Opened) -> Judged
-    requires { ⌜ Ready (firstWords (now sheet) (o .layout .words)) (now work) o ⌝ }
-    ensures { λ r. ⌜ r ≡ judgedOf (frontFaults (moduleIn (firstWords (now (sheet .entry)) (o .layout .words)))) ⌝ }
+    requires { ⌜ Ready (sheetWords (now sheet) o) (now work) o ⌝ }
+    ensures { λ r. ⌜ r ≡ judgedOf (frontFaults (moduleOf (now (sheet .entry)) o)) ⌝ }
     ensures { λ r. ⌜ Kept o (now (work .entry)) (now (work .exit)) ⌝ }
 {
     match check_types(sheet, work, o) {
@@ -57,12 +56,12 @@ fn check_records(
     n: usize,
     index: &[u32],
 ) -> Judged
-    requires { ⌜ Ready (firstWords (now sheet) (o .layout .words)) (now work) o ⌝ }
-    requires { ⌜ typesFaults (moduleIn (firstWords (now sheet) (o .layout .words))) ≡ [] ⌝ }
+    requires { ⌜ Ready (sheetWords (now sheet) o) (now work) o ⌝ }
+    requires { ⌜ typesFaults (moduleOf (now sheet) o) ≡ [] ⌝ }
     requires { ⌜ SortedHosts (firstWords (now hosts) n) (now index) ⌝ }
-    ensures { λ r. ⌜ r ≡ judgedOf (recordFaults (hostsIn (firstWords (now (hosts .entry)) n)) (moduleIn (firstWords (now (sheet .entry)) (o .layout .words)))) ⌝ }
+    ensures { λ r. ⌜ r ≡ judgedOf (recordFaults (hostsIn (firstWords (now (hosts .entry)) n)) (moduleOf (now (sheet .entry)) o)) ⌝ }
     ensures { λ r. ⌜ Kept o (now (work .entry)) (now (work .exit)) ⌝ }
-    ensures { λ r. ⌜ LinkedIf r (hostsIn (firstWords (now (hosts .entry)) n)) (firstWords (now (sheet .entry)) (o .layout .words)) (now (work .exit)) o ⌝ }
+    ensures { λ r. ⌜ LinkedIf r (hostsIn (firstWords (now (hosts .entry)) n)) (sheetWords (now (sheet .entry)) o) (now (work .exit)) o ⌝ }
 {
     match check_imports(sheet, work, o, hosts, n, index) {
         Judged::Passed => {}
@@ -81,9 +80,9 @@ fn check_records(
 
 // Every hook, start, exports.
 fn check_ends(sheet: &[u8], work: &[u32], o: Opened) -> Judged
-    requires { ⌜ Ready (firstWords (now sheet) (o .layout .words)) (now work) o ⌝ }
-    requires { ⌜ Captured (firstWords (now sheet) (o .layout .words)) (now work) o ⌝ }
-    ensures { λ r. ⌜ r ≡ judgedOf (endFaults (moduleIn (firstWords (now (sheet .entry)) (o .layout .words)))) ⌝ }
+    requires { ⌜ Ready (sheetWords (now sheet) o) (now work) o ⌝ }
+    requires { ⌜ Captured (sheetWords (now sheet) o) (now work) o ⌝ }
+    ensures { λ r. ⌜ r ≡ judgedOf (endFaults (moduleOf (now (sheet .entry)) o)) ⌝ }
 {
     match check_hooks(sheet, work, o) {
         Judged::Passed => {}
@@ -102,9 +101,9 @@ fn check_ends(sheet: &[u8], work: &[u32], o: Opened) -> Judged
 
 // Every function's code, then what comes after it.
 fn check_bodies(sheet: &[u8], work: &mut [u32], o: Opened) -> Judged
-    requires { ⌜ Ready (firstWords (now sheet) (o .layout .words)) (now work) o ⌝ }
+    requires { ⌜ Ready (sheetWords (now sheet) o) (now work) o ⌝ }
     requires { ⌜ o .layout .words ≤ 520192 ⌝ }
-    ensures { λ r. ⌜ r ≡ judgedOf (bodyFaults (moduleIn (firstWords (now (sheet .entry)) (o .layout .words)))) ⌝ }
+    ensures { λ r. ⌜ r ≡ judgedOf (bodyFaults (moduleOf (now (sheet .entry)) o)) ⌝ }
     ensures { λ r. ⌜ LinksKept o (now (work .entry)) (now (work .exit)) ⌝ }
 {
     index_captures(sheet, work, o);
@@ -126,12 +125,12 @@ pub fn check_module(
     n: usize,
     index: &[u32],
 ) -> Judged
-    requires { ⌜ Ready (firstWords (now sheet) (o .layout .words)) (now work) o ⌝ }
+    requires { ⌜ Ready (sheetWords (now sheet) o) (now work) o ⌝ }
     requires { ⌜ o .layout .words ≤ 520192 ⌝ }
     requires { ⌜ SortedHosts (firstWords (now hosts) n) (now index) ⌝ }
-    ensures { λ r. ⌜ r ≡ judgedOf (moduleFaults mostOnChain (hostsIn (firstWords (now (hosts .entry)) n)) (moduleIn (firstWords (now (sheet .entry)) (o .layout .words)))) ⌝ }
-    ensures { λ r. ⌜ Ready (firstWords (now (sheet .entry)) (o .layout .words)) (now (work .exit)) o ⌝ }
-    ensures { λ r. ⌜ LinkedIf r (hostsIn (firstWords (now (hosts .entry)) n)) (firstWords (now (sheet .entry)) (o .layout .words)) (now (work .exit)) o ⌝ }
+    ensures { λ r. ⌜ r ≡ judgedOf (moduleFaults mostOnChain (hostsIn (firstWords (now (hosts .entry)) n)) (moduleOf (now (sheet .entry)) o)) ⌝ }
+    ensures { λ r. ⌜ Ready (sheetWords (now (sheet .entry)) o) (now (work .exit)) o ⌝ }
+    ensures { λ r. ⌜ LinkedIf r (hostsIn (firstWords (now (hosts .entry)) n)) (sheetWords (now (sheet .entry)) o) (now (work .exit)) o ⌝ }
 {
     match check_front(sheet, work, o) {
         Judged::Passed => {}

@@ -42,7 +42,7 @@ impl<'l, L: Loader> Checker<'l, L> {
         }
     }
 
-    /// Case `index` of a seed, unless its host list has over so many blocks.
+    /// Case `open_index` of a seed, unless its host list has over so many blocks.
     pub fn case(&mut self, seed: u64, index: u64, host_blocks: u64) -> Result<(), Difference> {
         let case = case(seed, index);
         if case.hosts.len() as u64 > host_blocks.saturating_mul(BLOCK as u64) {
@@ -73,7 +73,7 @@ impl<'l, L: Loader> Checker<'l, L> {
         Ok(())
     }
 
-    /// Pair `index` of a seed, as demand 3 says.
+    /// Pair `open_index` of a seed, as demand 3 says.
     pub fn pair(&mut self, seed: u64, index: u64) -> Result<(), Difference> {
         let pair = pair(seed, index);
         let cases = [with_room(&pair.first), with_room(&pair.second)];

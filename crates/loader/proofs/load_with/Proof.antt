@@ -7,9 +7,9 @@ use Rattle.loader.proofs.load_with.Statement.{statement}
 use Rattle.loader.proofs.load_with.Tie as tie
 use Rattle.loader.proofs.load_with.Reads as reads
 use Rattle.loader.proofs.load_with.Lts as lts
-use Rattle.inputs.proofs.check_inputs.Reads as check-inputs-reads
-use Rattle.linking.proofs.load_intact.Reads as load-intact-reads
-use Rattle.inputs.proofs.refuse.Reads as refuse-reads
+use Rattle.open_inputs.proofs.check_inputs.Reads as check-inputs-reads
+use Rattle.load_intact.proofs.load_intact.Reads as load-intact-reads
+use Rattle.open_inputs.proofs.refuse.Reads as refuse-reads
 
 -- src/lib.rt:92:11
 check-inputs-requires : tie.Need-check-inputs-requires

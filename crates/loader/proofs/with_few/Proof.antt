@@ -2,7 +2,7 @@
 use mathlib.Core.Path.{refl}
 use borrow.Author.Needs.{needs}
 use native.Mathlib.Omega.{arith}
-use Rattle.host_index.specs.SortedLaws.{roomy-few}
+use Rattle.open_hosts.specs.SortedLaws.{roomy-few}
 use Rattle.loader.proofs.with_few.Statement.{statement}
 use Rattle.loader.proofs.with_few.Tie as tie
 use Rattle.loader.proofs.with_few.Reads as reads

@@ -1,7 +1,7 @@
 -- `loader::with_most` meets its contract.
 use borrow.Author.Needs.{needs}
 use native.Mathlib.Omega.{arith}
-use Rattle.host_index.specs.SortedLaws.{roomy}
+use Rattle.open_hosts.specs.SortedLaws.{roomy}
 use Rattle.loader.proofs.with_most.Statement.{statement}
 use Rattle.loader.proofs.with_most.Tie as tie
 use Rattle.loader.proofs.with_most.Reads as reads

@@ -2,7 +2,7 @@
 use borrow.Author.Needs.{needs}
 use Rattle.rules.proofs.check_front.Statement.{statement}
 use Rattle.rules.proofs.check_front.Tie as tie
-use Rattle.opening.specs.ReadyLaws.{ready-kept, kept-then}
+use Rattle.open_sheet.specs.ReadyLaws.{ready-kept, kept-then}
 use Rattle.rules.proofs.OrderSteps.{front-order}
 
 check-types-requires : tie.Need-check-types-requires

@@ -2,7 +2,7 @@
 use borrow.Author.Needs.{needs}
 use Rattle.rules.proofs.check_module.Statement.{statement}
 use Rattle.rules.proofs.check_module.Tie as tie
-use Rattle.opening.specs.ReadyLaws.{ready-kept}
+use Rattle.open_sheet.specs.ReadyLaws.{ready-kept}
 use Rattle.rules.specs.GroupLaws.{front-types, links-ready, links-linked, linked-refused}
 use Rattle.rules.proofs.OrderSteps.{all-order, records-stop, bodies-last}
 

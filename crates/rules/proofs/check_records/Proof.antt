@@ -2,7 +2,7 @@
 use borrow.Author.Needs.{needs}
 use Rattle.rules.proofs.check_records.Statement.{statement}
 use Rattle.rules.proofs.check_records.Tie as tie
-use Rattle.opening.specs.ReadyLaws.{ready-kept}
+use Rattle.open_sheet.specs.ReadyLaws.{ready-kept}
 use Rattle.rules.proofs.OrderSteps.{record-order, funcs-last, kept-equal, linked-equal}
 
 check-imports-requires : tie.Need-check-imports-requires

@@ -18,7 +18,7 @@ pub struct Case {
     pub work_len: u32,
 }
 
-/// Case `index` of a seed.
+/// Case `open_index` of a seed.
 pub fn case(seed: u64, index: u64) -> Case {
     let mut rng = Rng::new(seed, index);
     let rng = &mut rng;

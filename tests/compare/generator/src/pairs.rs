@@ -14,7 +14,7 @@ pub struct Pair {
     pub second: Draft,
 }
 
-/// Pair `index` of a seed.
+/// Pair `open_index` of a seed.
 pub fn pair(seed: u64, index: u64) -> Pair {
     let mut rng = Rng::new(seed, index);
     let rng = &mut rng;

@@ -1,0 +1,185 @@
+-- The rows tried by hand: what the definitions give, beside what is stated.
+use mathlib.Core.Path.{_≡_, refl}
+use Prim.Native.Nat.{ℕ, _+_, _*_}
+use mathlib.Core.List.{List, [], _∷_, _++_, map}
+use mathlib.Core.Bool.{Bool, true}
+use mathlib.Core.Option.{none}
+use lib.ListN.{take, drop, replicate}
+use Rattle.lists.specs.Lists.{all, same, from}
+use Rattle.lists.specs.ListLaws.{all-parts}
+use Rattle.error.specs.Answer.{numbers}
+use Rattle.sheet.specs.Module.{ValueType, ref, dyn, TypeDef, func, struct, coroutine, Const, Func, Handler, Inst, Hook, Module}
+use Rattle.sheet.specs.Encode.{sheetOf}
+use Rattle.host.specs.Host.{hostsOf}
+use Rattle.parents.specs.Parents.{mostOnChain}
+use Rattle.table.specs.Records.{catchTable, noHandler}
+use Rattle.table.specs.Table.{canonSection, spanSection, tableWords}
+use Rattle.descends.specs.Descends.{descends}
+use Rattle.load.specs.Load.{load}
+use Rattle.law_everything.specs.Everything.{everything}
+
+-- ── modules ──
+
+abbrev moduleOf : List TypeDef → List Const → List Func → List Hook → Module
+moduleOf ts cs fs hs =
+    record { strings = [] ∷ []; types = ts; consts = cs; imports = []; globals = []; funcs = fs; hooks = hs; start+ = 0; exports = [] }
+
+abbrev emptyModule : Module
+emptyModule =
+    record { strings = []; types = []; consts = []; imports = []; globals = []; funcs = []; hooks = []; start+ = 0; exports = [] }
+
+abbrev ofTypes : List TypeDef → Module
+ofTypes ts = moduleOf ts [] [] []
+
+abbrev ofConsts : List Const → Module
+ofConsts cs = moduleOf [] cs [] []
+
+-- a signature
+abbrev taking : List ValueType → List ValueType → TypeDef
+taking ps rs = func (record { params = ps; results = rs })
+
+-- a struct with this parent + 1 and nothing else
+abbrev child : ℕ → TypeDef
+child p = struct (record { name = 0; parent+ = p; fields = []; methods = [] })
+
+-- n structs on one chain
+abbrev chainOf : ℕ → List TypeDef
+chainOf n = map child (from 0 n)
+
+-- n constants of which each holds the one before
+abbrev nested : ℕ → List Const
+nested n = Const.plain 0 0 ∷ map (λ k. Const.array (k ∷ [])) (from 0 n)
+
+abbrev inst : ℕ → ℕ → ℕ → ℕ → Inst
+inst code d a w = record { low = code + 256 * d + 65536 * a; high = w }
+
+abbrev retVoid : Inst
+retVoid = inst 1 0 0 0
+
+-- a function with a signature, dyn registers, handlers and code
+abbrev function : ℕ → ℕ → List Handler → List Inst → Func
+function s n hs is =
+    record {
+      sig = s;
+      regs = replicate n dyn;
+      params = none;
+      shapes = [];
+      captures = [];
+      names = [];
+      typeRefs = [];
+      handlers = hs;
+      tables = [];
+      code = is;
+    }
+
+abbrev handler : ℕ → ℕ → Handler
+handler s e = record { start = s; end = e; target = 0; catch = 0 }
+
+-- a call of function 0, which has two parameters, from five registers
+abbrev calling : ℕ → Module
+calling a =
+    moduleOf (taking (dyn ∷ dyn ∷ []) [] ∷ taking [] [] ∷ []) [] (function 0 2 [] (retVoid ∷ []) ∷ function 1 5 [] (inst 15 2 a 0 ∷ retVoid ∷ []) ∷ []) []
+
+-- hook 7 bound to a function of three dyn
+abbrev hooked : List ValueType → Module
+hooked results =
+    moduleOf (taking (dyn ∷ dyn ∷ dyn ∷ []) results ∷ []) [] (function 0 3 [] (retVoid ∷ []) ∷ []) (record { hook = 7; kind = 0; index = 0 } ∷ [])
+
+-- ── what the definitions give ──
+
+-- does t descend from a, by the table
+abbrev familyOf : List TypeDef → ℕ → ℕ → List ℕ
+familyOf ts t a = descends (tableWords mostOnChain [] (ofTypes ts)) t a ∷ []
+
+-- function 0 has no code, function 1 no signature
+abbrev secondUnsigned : Module
+secondUnsigned = moduleOf (taking [] [] ∷ []) [] (function 0 0 [] [] ∷ function 7 0 [] [] ∷ []) []
+
+-- a tail call at position 1, where one of two handlers has ended
+abbrev tailUnderOne : Module
+tailUnderOne = moduleOf (taking [] [] ∷ []) [] (function 0 1 (handler 0 1 ∷ handler 0 2 ∷ []) (retVoid ∷ inst 7 0 0 0 ∷ []) ∷ []) []
+
+-- as many words as the longest sheet below needs
+abbrev room : ℕ
+room = 100000
+
+abbrev answerTo : List ℕ → List ℕ
+answerTo sheet = numbers (load sheet (hostsOf []) room room)
+
+abbrev answerOf : Module → List ℕ
+answerOf m = answerTo (sheetOf m)
+
+abbrev spansOf : List TypeDef → List ℕ
+spansOf ts = spanSection mostOnChain (ofTypes ts)
+
+abbrev kindOf : Module → List ℕ
+kindOf m = take 1 (answerOf m)
+
+abbrev refusal : ℕ → List ℕ
+refusal k = k ∷ 0 ∷ 0 ∷ 0 ∷ 0 ∷ 0 ∷ []
+
+-- words 1, 11, nine zeros; check 56
+abbrev emptySheet : List ℕ
+emptySheet = (1 ∷ 0 ∷ 0 ∷ 0 ∷ 11 ∷ []) ++ replicate 503 0 ++ (56 ∷ 0 ∷ 0 ∷ 0 ∷ [])
+
+abbrev twoUnderOne : List TypeDef
+twoUnderOne = child 3 ∷ child 3 ∷ child 0 ∷ []
+
+abbrev nine : List Handler
+nine = handler 2 6 ∷ handler 0 4 ∷ replicate 7 (handler 0 1)
+
+abbrev seven : List Inst
+seven = replicate 7 retVoid
+
+abbrev passes : List ℕ
+passes = 0 ∷ []
+
+-- ── the rows ──
+
+-- the two long chains are the last
+pub rows : List (List ℕ × List ℕ)
+rows =
+    (answerTo emptySheet, 0 ∷ 0 ∷ 49 ∷ 0 ∷ 0 ∷ 0 ∷ [])
+    ∷ (sheetOf emptyModule, emptySheet)
+    ∷ (spansOf twoUnderOne, 3 ∷ 1 ∷ 2 ∷ 2 ∷ 3 ∷ 0 ∷ 3 ∷ [])
+    ∷ (kindOf (ofTypes twoUnderOne), passes)
+    ∷ (answerOf (ofTypes (child 1 ∷ [])), refusal 17)
+    ∷ (canonSection (ofTypes (coroutine ∷ coroutine ∷ TypeDef.array (ref 0) ∷ TypeDef.array (ref 1) ∷ [])), 4 ∷ 0 ∷ 0 ∷ 2 ∷ 3 ∷ [])
+    ∷ (answerOf (ofConsts (Const.array (0 ∷ []) ∷ [])), refusal 18)
+    ∷ (kindOf (ofConsts (nested 64)), passes)
+    ∷ (answerOf (ofConsts (nested 65)), refusal 18)
+    ∷ (catchTable (function 0 1 nine seven), 1 ∷ 7 ∷ 1 ∷ 1 ∷ 0 ∷ 0 ∷ 0 ∷ 0 ∷ noHandler ∷ [])
+    ∷ (catchTable (function 0 1 (take 8 nine) seven), 0 ∷ [])
+    ∷ (kindOf (calling 2), passes)
+    ∷ (answerOf (calling 3), 3 ∷ 5 ∷ 5 ∷ 0 ∷ 2 ∷ 1 ∷ [])
+    ∷ (kindOf (hooked []), passes)
+    ∷ (answerOf (hooked (dyn ∷ [])), 19 ∷ 0 ∷ 7 ∷ 0 ∷ 0 ∷ 0 ∷ [])
+    ∷ (familyOf (coroutine ∷ child 0 ∷ []) 0 1, 0 ∷ [])
+    ∷ (familyOf twoUnderOne 0 2, 1 ∷ [])
+    ∷ (familyOf twoUnderOne 2 0, 0 ∷ [])
+    ∷ (familyOf twoUnderOne 0 3, 0 ∷ [])
+    ∷ (descends (replicate 9 1) 0 0 ∷ [], 25 ∷ [])
+    ∷ (answerOf tailUnderOne, 15 ∷ 0 ∷ 0 ∷ 0 ∷ 1 ∷ 2 ∷ [])
+    ∷ (answerOf secondUnsigned, 3 ∷ 1 ∷ 7 ∷ 0 ∷ 2 ∷ 0 ∷ [])
+    ∷ (kindOf (ofTypes (chainOf 256)), passes)
+    ∷ (answerOf (ofTypes (chainOf 257)), refusal 17)
+    ∷ []
+
+pub holds : List ℕ × List ℕ → Bool
+holds r = same (r .0) (r .1)
+
+-- each part by computing: together they are more steps than one theorem may take
+short-rows : all holds (take 22 rows) ≡ true
+unfolding everything rows holds
+short-rows = refl
+
+chain-of-256 : all holds (take 1 (drop 22 rows)) ≡ true
+unfolding everything rows holds
+chain-of-256 = refl
+
+chain-of-257 : all holds (drop 1 (drop 22 rows)) ≡ true
+unfolding everything rows holds
+chain-of-257 = refl
+
+pub rows-hold : all holds rows ≡ true
+rows-hold = all-parts holds 22 rows short-rows (all-parts holds 1 (drop 22 rows) chain-of-256 chain-of-257)

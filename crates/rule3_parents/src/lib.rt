@@ -1,0 +1,193 @@
+// Rule 3 in code: parents, per type.
+ghost use mathlib.Core.Path.{_≡_};
+ghost use Prim.Native.Nat.{_+_, _*_, _≤_, _<_, min};
+ghost use lib.ListN.{length, getD};
+ghost use Rattle.error.specs.Verdict.{verdictOf, judgedOf};
+ghost use Rattle.sheet.specs.Module.{typeAt, structOf, isStruct};
+ghost use Rattle.sheet.specs.Encode.{encodeType};
+ghost use Rattle.open_sheet.specs.Ready.{Ready, Kept, sheetWords, moduleOf};
+ghost use Rattle.parents.specs.Forest.{chain};
+ghost use Rattle.parents.specs.Parents.{fieldWords, shortChain, parentsFaults};
+ghost use Rattle.rule3_parents.specs.Child.{parentWord, extends, scanFaults};
+ghost use Rattle.rule3_parents.specs.Lengths.{lengthAt, noted, Remembers};
+use blocks::word;
+use error::Judged;
+use error::LoadErrorKind;
+use error::TypeId;
+use error::Verdict;
+use error::in_module;
+use open_sheet::Opened;
+use open_sheet::type_at;
+use region::fill;
+
+// Word i of type t.
+fn type_word(sheet: &[u8], work: &[u32], o: Opened, t: TypeId, i: usize) -> u32
+    requires { ⌜ Ready (sheetWords (now sheet) o) (now work) o ⌝ }
+    requires { ⌜ t .0 < o .counts .types ⌝ }
+    requires { ⌜ i < length (encodeType (typeAt (moduleOf (now sheet) o .types) (t .0))) ⌝ }
+    ensures { λ r. ⌜ r ≡ getD (encodeType (typeAt (moduleOf (now (sheet .entry)) o .types) (t .0))) i 0 ⌝ }
+{
+    word(sheet, type_at(work, o, t) + i)
+}
+
+pub fn is_struct(sheet: &[u8], work: &[u32], o: Opened, t: TypeId) -> bool
+    requires { ⌜ Ready (sheetWords (now sheet) o) (now work) o ⌝ }
+    ensures { λ r. ⌜ r ≡ isStruct (typeAt (moduleOf (now (sheet .entry)) o .types) (t .0)) ⌝ }
+{
+    if t.0 < o.counts.types {
+        return type_word(sheet, work, o, t, 0) == 1;
+    }
+    false
+}
+
+// The parent + 1; 0 for none, and of what is no struct.
+pub fn parent_of(sheet: &[u8], work: &[u32], o: Opened, t: TypeId) -> u32
+    requires { ⌜ Ready (sheetWords (now sheet) o) (now work) o ⌝ }
+    ensures { λ r. ⌜ r ≡ parentWord (typeAt (moduleOf (now (sheet .entry)) o .types) (t .0)) ⌝ }
+{
+    if is_struct(sheet, work, o, t) {
+        return type_word(sheet, work, o, t, 2);
+    }
+    0
+}
+
+// How many words the fields take.
+fn count_words(sheet: &[u8], work: &[u32], o: Opened, t: TypeId) -> usize
+    requires { ⌜ Ready (sheetWords (now sheet) o) (now work) o ⌝ }
+    ensures { λ r. ⌜ r ≡ length (fieldWords (structOf (typeAt (moduleOf (now (sheet .entry)) o .types) (t .0)))) ⌝ }
+{
+    if is_struct(sheet, work, o, t) {
+        return 2 * type_word(sheet, work, o, t, 3) as usize;
+    }
+    0
+}
+
+// Word i of the fields.
+fn field_word(sheet: &[u8], work: &[u32], o: Opened, t: TypeId, i: usize) -> u32
+    requires { ⌜ Ready (sheetWords (now sheet) o) (now work) o ⌝ }
+    requires { ⌜ i < length (fieldWords (structOf (typeAt (moduleOf (now sheet) o .types) (t .0)))) ⌝ }
+    ensures { λ r. ⌜ r ≡ getD (fieldWords (structOf (typeAt (moduleOf (now (sheet .entry)) o .types) (t .0)))) i 0 ⌝ }
+{
+    type_word(sheet, work, o, t, 4 + i)
+}
+
+// The length of t's whole chain where it is known, else 0.
+fn known_length(work: &[u32], o: Opened, t: TypeId) -> u32
+    requires { ⌜ 5 * o .layout .words + o .counts .types ≤ length (now work) ⌝ }
+    ensures { λ r. ⌜ r ≡ lengthAt o (now (work .entry)) (t .0) ⌝ }
+{
+    if t.0 < o.counts.types {
+        return work[5 * o.layout.words + t.0 as usize];
+    }
+    0
+}
+
+// Remember a length below the limit: that chain has ended.
+fn note_length(work: &mut [u32], o: Opened, t: TypeId, n: u32, left: u32)
+    requires { ⌜ 5 * o .layout .words + t .0 < length (now work) ⌝ }
+    ensures { λ r. ⌜ now (work .exit) ≡ noted o (now (work .entry)) (t .0) n left ⌝ }
+{
+    if n < left {
+        work[5 * o.layout.words + t.0 as usize] = n;
+    }
+}
+
+fn shorter(a: u32, b: u32) -> u32
+    ensures { λ r. ⌜ r ≡ min a b ⌝ }
+{
+    if a < b { a } else { b }
+}
+
+// The numbers met from t up through declared parents, at most `left`; a chain that was met before is not walked again.
+fn chain_length(sheet: &[u8], work: &mut [u32], o: Opened, t: TypeId, left: u32) -> u32
+    requires { ⌜ Remembers (sheetWords (now sheet) o) (now work) o ⌝ }
+    ensures { λ r. ⌜ r ≡ length (chain (moduleOf (now (sheet .entry)) o .types) left (t .0)) ⌝ }
+    ensures { λ r. ⌜ Remembers (sheetWords (now (sheet .entry)) o) (now (work .exit)) o ⌝ }
+    ensures { λ r. ⌜ Kept o (now (work .entry)) (now (work .exit)) ⌝ }
+{
+    if left == 0 {
+        return 0;
+    }
+    let known = known_length(work, o, t);
+    if known != 0 {
+        return shorter(left, known);
+    }
+    let p = parent_of(sheet, work, o, t);
+    if p == 0 {
+        return 1;
+    }
+    let n = chain_length(sheet, work, o, TypeId(p - 1), left - 1) + 1;
+    note_length(work, o, t, n, left);
+    n
+}
+
+fn is_chain_short(sheet: &[u8], work: &mut [u32], o: Opened, t: TypeId, most: u32) -> bool
+    requires { ⌜ Remembers (sheetWords (now sheet) o) (now work) o ⌝ }
+    requires { ⌜ most < 4294967295 ⌝ }
+    ensures { λ r. ⌜ r ≡ shortChain most (moduleOf (now (sheet .entry)) o .types) (t .0) ⌝ }
+    ensures { λ r. ⌜ Remembers (sheetWords (now (sheet .entry)) o) (now (work .exit)) o ⌝ }
+    ensures { λ r. ⌜ Kept o (now (work .entry)) (now (work .exit)) ⌝ }
+{
+    chain_length(sheet, work, o, t, most + 1) <= most
+}
+
+// The parent is a struct with no more fields than the child.
+fn may_extend(sheet: &[u8], work: &[u32], o: Opened, child: TypeId, parent: TypeId) -> bool
+    requires { ⌜ Ready (sheetWords (now sheet) o) (now work) o ⌝ }
+    ensures { λ r. ⌜ r ≡ extends (moduleOf (now (sheet .entry)) o .types) (parent .0) (child .0) ⌝ }
+{
+    if is_struct(sheet, work, o, parent) {
+        return count_words(sheet, work, o, parent) <= count_words(sheet, work, o, child);
+    }
+    false
+}
+
+// Type by type: the parent is fit, its fields are the first of the child's, the chain is short.
+fn scan_parents(sheet: &[u8], work: &mut [u32], o: Opened, most: u32) -> Verdict
+    requires { ⌜ Remembers (sheetWords (now sheet) o) (now work) o ⌝ }
+    requires { ⌜ most < 4294967295 ⌝ }
+    ensures { λ r. ⌜ r ≡ verdictOf (scanFaults most (moduleOf (now (sheet .entry)) o .types)) ⌝ }
+    ensures { λ r. ⌜ Kept o (now (work .entry)) (now (work .exit)) ⌝ }
+{
+    let mut found = Verdict::Holds;
+    let mut t = 0;
+    'types: while t < o.counts.types {
+        let p = parent_of(sheet, work, o, TypeId(t));
+        if p == 0 {
+            t += 1;
+            continue 'types;
+        }
+        if !may_extend(sheet, work, o, TypeId(t), TypeId(p - 1)) {
+            found = Verdict::Broken(LoadErrorKind::BadParent);
+            break 'types;
+        }
+        let n = count_words(sheet, work, o, TypeId(p - 1));
+        let mut i = 0;
+        while i < n {
+            if field_word(sheet, work, o, TypeId(p - 1), i)
+                != field_word(sheet, work, o, TypeId(t), i)
+            {
+                found = Verdict::Broken(LoadErrorKind::BadParent);
+                break 'types;
+            }
+            i += 1;
+        }
+        if !is_chain_short(sheet, work, o, TypeId(t), most) {
+            found = Verdict::Broken(LoadErrorKind::InheritanceTooDeep);
+            break 'types;
+        }
+        t += 1;
+    }
+    found
+}
+
+// Rule 3: 16, then 17, at the first type that breaks it; no length is known before.
+pub fn check_parents(sheet: &[u8], work: &mut [u32], o: Opened, most: u32) -> Judged
+    requires { ⌜ Ready (sheetWords (now sheet) o) (now work) o ⌝ }
+    requires { ⌜ most < 4294967295 ⌝ }
+    ensures { λ r. ⌜ r ≡ judgedOf (parentsFaults most (moduleOf (now (sheet .entry)) o)) ⌝ }
+    ensures { λ r. ⌜ Kept o (now (work .entry)) (now (work .exit)) ⌝ }
+{
+    fill(work, 5 * o.layout.words, o.counts.types as usize, 0);
+    in_module(scan_parents(sheet, work, o, most))
+}

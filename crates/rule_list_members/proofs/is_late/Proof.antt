@@ -1,0 +1,20 @@
+-- `rule_list_members::is_late` meets its contract.
+use borrow.Author.Needs.{needs}
+use Rattle.rule_list_members.proofs.MemberSteps.{late-params, late-args}
+use Rattle.rule_list_members.proofs.is_late.Statement.{statement}
+use Rattle.rule_list_members.proofs.is_late.Tie as tie
+
+enum-told : tie.Need-enum-told
+enum-told c = search needs
+
+enum-told-2 : tie.Need-enum-told-2
+enum-told-2 c = search needs
+
+returns : tie.Need-returns
+returns c = search (needs, late-params, late-args)
+
+returns-2 : tie.Need-returns-2
+returns-2 c = search (needs, late-params, late-args)
+
+pub is-late-spec : {M : Type 1} → statement M
+is-late-spec = tie.close (tie.spec enum-told enum-told-2 returns returns-2)
