@@ -1,5 +1,7 @@
-"""What the scripts of this folder share: what was tried, what did not go as expected, and the end of a run."""
-import sys
+"""What the scripts of this folder share: what was tried, what did not go as expected, the proved programs, and the end of a run."""
+import os, subprocess, sys, tempfile
+
+ROOT = os.path.dirname(os.path.dirname(os.path.abspath(__file__)))
 
 TRIED, WRONG = [], []
 
@@ -8,6 +10,20 @@ def compare(name, found, expected):
     TRIED.append(name)
     if found != expected:
         WRONG.append(f'{name}\n    found    {str(found)[:600]}\n    expected {str(expected)[:600]}')
+
+# what a proved program prints of a sheet on standard input, under the host list in the file `hosts` or under none
+def answered(program, sheet, hosts=None):
+    with tempfile.TemporaryDirectory() as folder:
+        if hosts is not None:
+            with open(folder + '/hosts', 'wb') as f:
+                f.write(hosts)
+        return subprocess.run([f'{ROOT}/target/bin/{program}'], cwd=folder, input=sheet, stdout=subprocess.PIPE).stdout.decode()
+
+# what a script wants of the test run before it
+def wants(script, *paths):
+    for path, command in paths:
+        if not os.path.exists(f'{ROOT}/{path}'):
+            sys.exit(f'{script}: {path} is not here: {command}')
 
 # says how many cases went as expected and, where some did not, the first of them
 def finish(script):

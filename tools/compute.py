@@ -16,7 +16,7 @@ use lib.ListN.{take, replicate}
 use Rattle.lists.specs.Lists.{same}
 use Rattle.error.specs.Answer.{numbers}
 use Rattle.load.specs.Load.{load, tableAfter}
-use Rattle.everything.specs.Everything.{everything}
+use Rattle.law_everything.specs.Everything.{everything}
 '''
 
 def words(text):
@@ -50,8 +50,8 @@ def main():
     with tempfile.TemporaryDirectory() as top:
         shutil.copytree(f'{ROOT}/crates', f'{top}/crates')
         crates = open(f'{ROOT}/crates.txt', encoding='utf-8').read()
-        uses = next(l for l in crates.split('\n') if l.startswith('everything:')).split(':')[1]
-        open(f'{top}/crates.txt', 'w', encoding='utf-8').write(f'{crates}\ncases:{uses} everything\n')
+        uses = next(l for l in crates.split('\n') if l.startswith('law_everything:')).split(':')[1]
+        open(f'{top}/crates.txt', 'w', encoding='utf-8').write(f'{crates}\ncases:{uses} law_everything\n')
         os.makedirs(f'{top}/crates/cases/specs')
         os.makedirs(f'{top}/crates/cases/src')
         open(f'{top}/crates/cases/src/lib.rt', 'w').write('// Cases of the reference.\n')
@@ -62,8 +62,10 @@ def main():
         open(f'{top}/crates/cases/specs/Lib.antt', 'w').write(''.join(f'pub mod Cases{g}\n' for g in range(len(groups))))
         run = subprocess.run(['rt', 'dev', 'cases'], cwd=top, capture_output=True, text=True)
         wrong = [l for l in (run.stdout + run.stderr).split('\n') if re.search(r'\.antt:[0-9]+:[0-9]+: error', l)]
+        if run.returncode and not wrong:
+            sys.exit('\n'.join(['compute.py: nothing was computed, since rt dev failed', *(run.stdout + run.stderr).split('\n')[-20:]]))
         print('\n'.join(wrong[:20]) or f'{len(lines)} cases computed, no difference')
-        sys.exit(1 if wrong or run.returncode else 0)
+        sys.exit(1 if wrong else 0)
 
 if __name__ == '__main__':
     main()

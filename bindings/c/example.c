@@ -26,21 +26,28 @@ static int stop(const char *name, const char *why) {
     return 2;
 }
 
-/* Reads a file whole; data is null where that fails. */
+/* Reads a file whole; data is null where that fails, and errno says why. */
 static struct bytes read_file(const char *name) {
     struct bytes bytes = {NULL, 0};
     FILE *file = fopen(name, "rb");
+    int error;
     if (file == NULL)
         return bytes;
     bytes.data = (uint8_t *)malloc(MOST_BYTES);
     if (bytes.data != NULL)
         bytes.length = fread(bytes.data, 1, MOST_BYTES, file);
+    error = errno;
     if (ferror(file)) {
         free(bytes.data);
         bytes.data = NULL;
     }
     fclose(file);
+    errno = error;
     return bytes;
+}
+
+static int is_number(const char *text) {
+    return *text != '\0' && text[strspn(text, "0123456789")] == '\0';
 }
 
 /* A type number; digits that are too many for one name no type. */
@@ -76,16 +83,21 @@ static int load(struct bytes sheet, struct bytes hosts, int pairs, char **number
     if (answer[PAQLLURI_KIND] == PAQLLURI_ACCEPTED)
         print_families(table, answer[PAQLLURI_NUMBER], pairs, numbers);
     free(table);
+    if (fflush(stdout) != 0)
+        return stop("standard output", strerror(errno));
     return answer[PAQLLURI_KIND] == PAQLLURI_ACCEPTED ? 0 : 1;
 }
 
 int main(int argc, char **argv) {
     struct bytes sheet, hosts;
-    int status;
+    int status, k;
     if (argc < 3 || argc % 2 == 0) {
         fprintf(stderr, "usage: example SHEET HOSTS [T A]...\n");
         return 2;
     }
+    for (k = 3; k < argc; k++)
+        if (!is_number(argv[k]))
+            return stop(argv[k], "not the number of a type");
     sheet = read_file(argv[1]);
     if (sheet.data == NULL)
         return stop(argv[1], strerror(errno));

@@ -7,8 +7,9 @@
  * A call takes less than 96 KiB of stack where the host list has at most 512 entries (80 KB were measured, on a
  * chain of 256 types), and 1.6 MB more where it has more or says so: 2 MiB are enough for any bytes.
  *
- * A slice is a pointer and a count of elements. Any bytes and words may stand in it: nothing need be checked
- * before a call, and every call returns. What is asked of the pointers is what C asks:
+ * A slice is a pointer and a count of elements, lent to the library (in Rust's word, borrowed) until the call
+ * returns. Any bytes and words may stand in it: nothing need be checked before a call, and every call returns.
+ * What is asked of the pointers is what C asks:
  * - each points to as many elements as its length says; where the length is 0 it may be null, or anything;
  * - pointers to uint32_t are aligned for it; those to bytes need no alignment;
  * - table, work and answer overlap neither each other nor the sheet nor the host list, which may overlap.
@@ -22,6 +23,12 @@
 #ifdef __cplusplus
 extern "C" {
 #endif
+
+/* The version of the calls and of this header, as in CHANGELOG.md. */
+#define PAQLLURI_VERSION_MAJOR 0
+#define PAQLLURI_VERSION_MINOR 1
+#define PAQLLURI_VERSION_PATCH 0
+#define PAQLLURI_VERSION "0.1.0"
 
 /* A sheet and a host list have 1 to 4,096 blocks of 512 bytes, each with 127 words and a check word. */
 #define PAQLLURI_BLOCK_BYTES 512
@@ -50,7 +57,7 @@ enum paqlluri_place {
     PAQLLURI_NUMBERS = 6   /* how many there are */
 };
 
-/* Accepted, or why not. The first that holds, in the order that docs/ARCHITECTURE.md finds the definitions of. */
+/* Accepted, or why not. The first that holds, in the order of docs/FORMAT.md, "The order of answers". */
 enum paqlluri_kind {
     PAQLLURI_ACCEPTED = 0,              /* number: the words of the linked table */
     PAQLLURI_DECODE = 1,                /* the sheet's layout is broken */

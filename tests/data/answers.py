@@ -1,4 +1,4 @@
-"""The six numbers of paper 01, and cases: a name, the parts of a sheet, and the numbers that it must get."""
+"""The six numbers (docs/FORMAT.md, "The kinds"), and cases: a name, the parts of a sheet, and the numbers that it must get."""
 from sheets import parts, sheet
 
 HOLDS, BROKEN, UNRESOLVED = [0], [1], [2, 0]

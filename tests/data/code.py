@@ -1,4 +1,4 @@
-"""Cases of rule 7: the ends of code, handlers, tables, and what covers a tail call. Written from paper 01 alone."""
+"""Cases of rule 7: the ends of code, handlers, tables, and what covers a tail call. By docs/FORMAT.md, apart from the definitions."""
 from answers import ARITY, CAPTURES, CATCH, EMPTY, FALLS, HANDLER, HOLDS, PROMOTE, REGISTER, TABLE, TABLE_TARGET, TAIL_CALL, at, collection
 from sheets import DYN, I64, MOST, STR, cell, fn, func, inst, ref
 
@@ -56,7 +56,7 @@ handled('handlers-before-tables', INVALID, (1, 1, 0, 0), tables=[([], 9)])
 handled('handlers-catch-before-tables', NOT_DYN, (0, 3, 0, 1), tables=[([], 9)])
 case('handler-without-registers', INVALID, funcs=[func(handlers=[(0, 1, 0, 0)])], **U)
 case('handlers-before-instructions', at(CATCH, 1), funcs=[func(), func(0, [I64], code=[inst(2, 9)], handlers=[(0, 1, 0, 0)])], **U)
-case('handlers-seven-positions-in-paper', HOLDS,
+case('handlers-seven-positions', HOLDS,
      funcs=[func(0, [DYN], code=[RET_VOID] * 7, handlers=[(2, 6, 0, 0), (0, 4, 0, 0)] + [(0, 1, 0, 0)] * 7)], **U)
 
 # ── tables: over three instructions ──

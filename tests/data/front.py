@@ -1,4 +1,4 @@
-"""Cases of rules 2 to 4: types, parents, constants. Written from paper 01 alone."""
+"""Cases of rules 2 to 4: types, parents, constants. By docs/FORMAT.md, apart from the definitions."""
 from answers import BAD_CONSTANT, DEEP, FUNCTION, HOLDS, PARENT, SIGNATURE, STRING, TYPE, collection
 from sheets import COROUTINE, DYN, I16, I8, MOST, PLAIN, array, cell, entries, fn, func, items, iter_, map_, ref, struct, text
 

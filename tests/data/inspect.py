@@ -1,7 +1,7 @@
 #!/usr/bin/env python3
 """Writes what the program `inspect` is run on: its sheets (data/), its arguments, and what it must print, each case by what it is meant to be.
 
-A case is a list of words after N, or bytes; written here from paper 01 alone.
+A case is a list of words after N, or bytes; by docs/FORMAT.md, apart from the definitions.
 """
 from sheets import blocks, func, parts, sheet, write
 

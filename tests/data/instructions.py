@@ -1,4 +1,4 @@
-"""Cases of rule 7: each of the 35 instructions. Written from paper 01 alone."""
+"""Cases of rule 7: each of the 35 instructions. By docs/FORMAT.md, apart from the definitions."""
 from answers import (ARITY, ARRAY_KIND, CAPTURE, CAPTURES, CELL_KIND, CONSTANT, FALLS, FUNCTION, GLOBAL, HOLDS, IMPORT, MAP_KIND, MODIFIER, NAME, PROMOTE,
                      REGISTER, SHAPE, STRUCT_KIND, TABLE, TARGET, TYPE_REF, at, collection)
 from sheets import COROUTINE, DYN, I64, MOST, PLAIN, STR, array, cell, fn, func, import_, inst, iter_, map_, param_list, ref, struct

@@ -1,4 +1,4 @@
-"""Cases of rules 5 and 6: imports, globals, and every function's record. Written from paper 01 alone."""
+"""Cases of rules 5 and 6: imports, globals, and every function's record. By docs/FORMAT.md, apart from the definitions."""
 from answers import BAD_CONSTANT, CALL_SHAPE, CONSTANT, HOLDS, PARAMS, PARAM_LIST, SIGNATURE, STRING, TYPE, UNRESOLVED, at, collection
 from sheets import (COROUTINE, DYN, F64, I64, I8, MOST, NO_LIST, PLAIN, STR, array, cell, fn, func, import_, inst, items, iter_, map_, param_list, ref,
                     struct)

@@ -1,7 +1,8 @@
 #!/usr/bin/env python3
 """Writes what the program `judge` is run on: its sheets and its host list (data/), its arguments, and what it must print, each case by what it is meant to be.
 
-A case is the parts of a sheet and its six numbers, those not given being 0; written from paper 01 alone, one file for each group of rules.
+A case is the parts of a sheet and its six numbers, those not given being 0; by docs/FORMAT.md, apart from the definitions, one file for each
+group of rules.
 The program prints 0 for the length of an accepted sheet. It takes at most 16 blocks.
 """
 import code, ends, front, instructions, records

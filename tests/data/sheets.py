@@ -1,4 +1,4 @@
-"""Sheets and host lists for the programs' data, written from paper 01 alone, and the files that a program is run on."""
+"""Sheets and host lists for the programs' data, by docs/FORMAT.md, apart from the definitions, and the files that a program is run on."""
 import os, shutil
 
 CRATES = os.path.dirname(os.path.dirname(os.path.dirname(os.path.abspath(__file__)))) + '/crates'
@@ -9,11 +9,11 @@ MOST = 4294967295
 def blocks(words, count=None):
     count = count or max(1, -(-len(words) // 127))
     words = words + [0] * (127 * count - len(words))
-    out = b''
+    out = []
     for k in range(count):
         body = b''.join(w.to_bytes(4, 'little') for w in words[127 * k:127 * k + 127])
-        out += body + ((k + sum(i * b for i, b in enumerate(body, 1))) % 65521).to_bytes(4, 'little')
-    return out
+        out += [body, ((k + sum(i * b for i, b in enumerate(body, 1))) % 65521).to_bytes(4, 'little')]
+    return b''.join(out)
 
 def sheet(body, count=None, edition=1, n=None):
     return blocks([edition, len(body) + 2 if n is None else n] + body, count)

@@ -1,7 +1,8 @@
 #!/usr/bin/env python3
 """Writes what the program `trial` is run on: octet sequences of RFC 3629 in a sheet and in a host list, and further sheets (data/), its arguments, and what it must print.
 
-Written from paper 01 alone; the lengths of tables are counted by hand, as the terms show. The program takes at most 16 blocks.
+By docs/FORMAT.md, apart from the definitions; the lengths of tables are counted by hand, as the terms show. The program takes at most
+16 blocks.
 """
 from answers import BROKEN, DEEP, REGISTER, UNRESOLVED, at, collection, line
 from sheets import (COROUTINE, DYN, I64, STR, array, cell, entries, fn, func, host_list, import_, inst, items, iter_, map_, param_list, ref, struct, text, write)

@@ -1,1 +1,2 @@
-"""What tools/sheet is made of. Written from paper 01 alone: nothing is shared with tests/data, so that trying one against the other says something."""
+"""What tools/sheet is made of. By docs/FORMAT.md, apart from the definitions: nothing is shared with tests/data, so that trying one against
+the other says something."""

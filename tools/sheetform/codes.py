@@ -1,4 +1,4 @@
-"""The codes of paper 01 and what the text form calls them."""
+"""The codes of docs/FORMAT.md and what the text form calls them."""
 from collections import namedtuple
 
 VALUE_TYPES = ['bool', 'i8', 'i16', 'i32', 'i64', 'u8', 'u16', 'u32', 'u64', 'f32', 'f64', 'str', 'dyn']
@@ -11,7 +11,7 @@ SHAPES = ['positional', 'named', 'spread']
 FLAGS = ['by-ref', 'optional']
 HOST_KINDS = ['user', 'scheduler']
 
-# fields are slot and kind in the paper's order; modifier is the word for D where an instruction reads it
+# fields are slot and kind in the order of docs/FORMAT.md, "The 35 codes"; modifier is the word for D where an instruction reads it
 Op = namedtuple('Op', 'name fields modifier')
 KINDS = dict(r='register', t='target', b='table', f='function', c='constant', g='global', i='import', n='name', k='capture', s='shape', y='type ref')
 WIDTHS = dict(a=65535, b=65535, c=65535, d=255, w=4294967295)

@@ -64,6 +64,10 @@ class Families:
             return "its fields do not begin with its parent's"
         return f'more than {CHAIN} types on its chain' if self.depth.get(t, 0) >= CHAIN else ''
 
+    # whether rule 3 is broken; which fault the loader finds first is its to say
+    def refused(self):
+        return bool(self.apart()) or any(map(self.remark, self.depth))
+
     # structs outside every family, each with the reason
     def apart(self):
         rest = [t for t in self.structs if t not in self.depth]

@@ -1,15 +1,36 @@
-"""Arguments, files in and files out."""
-import os, tempfile
+"""Arguments, files in and files out, and how a tool ends."""
+import os, sys, tempfile
 from types import SimpleNamespace
 from .lexer import Wrong
 
 # a byte more than 4,096 blocks shows that there are more; a text of such a sheet can be longer
 MOST, MOST_TEXT = 4096 * 512 + 1, 1 << 27
-USAGE = dict(write='write TEXT [-o FILE]', show='show [--hosts] FILE [-o TEXT]', table='table SHEET [HOSTS]', families='families SHEET [--svg FILE | --dot FILE]')
+USAGE = dict(write='write TEXT [-o FILE]', show='show [--hosts] FILE [-o TEXT]', table='table SHEET [HOSTS]',
+             families='families SHEET [--svg FILE | --dot FILE]')
 OPTIONS = dict(write=['-o'], show=['-o', '--hosts'], table=[], families=['--svg', '--dot'])
 
 class Failed(Exception):
     """What cannot be tried, and why."""
+
+# where standard error cannot be written nothing, and that changes no exit status; print would take standard output if there is none
+def say(tool, message):
+    try:
+        if sys.stderr:
+            print(f'{tool}: {message}', file=sys.stderr, flush=True)
+    except OSError:
+        sys.stderr = None
+
+# a tool's exit status: 1 is a verdict, or a wrong text, so nothing that goes wrong in the tool itself may end with it
+def ended(tool, main):
+    try:
+        return main()
+    except KeyboardInterrupt:
+        return 130
+    except Failed as failed:
+        say(tool, failed)
+    except Exception as fault:
+        say(tool, f'{type(fault).__name__}: {fault}')
+    return 2
 
 # what is asked for
 def arguments(given):
@@ -22,12 +43,12 @@ def arguments(given):
         first = rest.pop(0)
         if not first.startswith('-') or first == '-':
             names.append(first)
-        elif first not in OPTIONS[command] or getattr(out, first.lstrip('-')) or (first != '--hosts' and not rest):
+        elif first not in OPTIONS[command] or getattr(out, first.lstrip('-')) not in (None, False) or (first != '--hosts' and not rest):
             raise Failed(usage)
         else:
             setattr(out, first.lstrip('-'), True if first == '--hosts' else rest.pop(0))
     most = 2 if command == 'table' else 1
-    if not 1 <= len(names) <= most or (out.svg and out.dot) or names == ['-', '-']:
+    if not 1 <= len(names) <= most or None not in (out.svg, out.dot) or names == ['-', '-']:
         raise Failed(usage)
     out.file, out.under = names[0], names[1] if len(names) == 2 else None
     return out

@@ -1,9 +1,7 @@
-"""Runs the proved programs on a sheet and a host list, and says what the six numbers mean. The words are README.md's."""
-import os, subprocess, sys, tempfile
-
-ROOT = os.path.dirname(os.path.dirname(os.path.dirname(os.path.realpath(__file__))))
-# the programs take 16 blocks; more count as no bytes
-MOST = 8192
+"""Runs the loader on a sheet and a host list, and says what the six numbers mean. The words are README.md's."""
+import subprocess, tempfile
+from . import native
+from .files import Failed, say
 
 KINDS = {
     1: "the sheet's layout is broken",
@@ -33,63 +31,35 @@ KINDS = {
     25: 'not a linked table',
     26: 'never given',
 }
-OUT_OF = ['type', 'function', 'string', 'constant', 'register', 'import', 'global', 'branch target', 'table target', 'table', 'name', 'type ref', 'capture',
-          'call shape']
+OUT_OF = ['type', 'function', 'string', 'constant', 'register', 'import', 'global', 'branch target', 'table target', 'table', 'name', 'type ref',
+          'capture', 'call shape']
 WANTED = ['a struct', 'an array', 'a map', 'a cell']
 
 # words 1, 3, 0 and the check word of their block
 def empty_list():
     return b'\1\0\0\0\3\0\0\0' + bytes(500) + b'\20\0\0\0'
 
-class Loader:
-    """A proved program that loads, for the tool that runs it."""
-    def __init__(self, tool, program):
-        self.tool, self.program, self.path = tool, program, f'{ROOT}/target/bin/{program}'
+# the six numbers, and the words of the linked table where they are asked for and the sheet is accepted
+def load(tool, sheet, hosts, table=False):
+    program, rests_on = native.program(tool)
+    with tempfile.TemporaryDirectory() as folder:
+        with open(folder + '/hosts', 'wb') as f:
+            f.write(hosts)
+        done = subprocess.run([program, *(['--table'] if table else []), '-', folder + '/hosts'], input=sheet, stdout=subprocess.PIPE)
+    words = done.stdout.split()
+    if done.returncode not in (0, 1) or not all(map(bytes.isdigit, words)):
+        raise Failed(f'no verdict: {program} ended with status {done.returncode} and printed {done.stdout[:200]!r}; {native.AGAIN}')
+    found = answer(program, done.returncode, list(map(int, words)), table)
+    if rests_on:
+        say(tool, rests_on)
+    return found
 
-    def stop(self, message):
-        print(f'{self.tool}: {message}', file=sys.stderr)
-        sys.exit(2)
-
-    # one byte more than the program takes shows that there are more
-    def read(self, path):
-        try:
-            with open(path, 'rb') as f:
-                data = f.read(MOST + 1)
-        except (OSError, ValueError) as e:
-            self.stop(f'{path}: {getattr(e, "strerror", None) or e}')
-        self.warn(path, data)
-        return data
-
-    def warn(self, name, data):
-        if len(data) > MOST:
-            print(f'{self.tool}: {name} has over {MOST} bytes (16 blocks), the most that the {self.program} takes: it is tried as a file of no bytes', file=sys.stderr)
-
-    def build(self):
-        print(f"{self.tool}: target/bin/{self.program} is not here; building it by 'rt check {self.program}', which proves the loader first "
-              '(some 15 minutes from nothing)', file=sys.stderr, flush=True)
-        try:
-            done = subprocess.run(['rt', 'check', self.program], cwd=ROOT, stdout=sys.stderr)
-        except OSError as e:
-            self.stop(f"rt of Rattle's kit is needed to build the {self.program}, and cannot be run: {e.strerror}")
-        if done.returncode != 0 or not os.path.exists(self.path):
-            self.stop(f"the {self.program} could not be built: 'rt check {self.program}' failed")
-
-    # the six numbers, and what else the program prints, as numbers
-    def run(self, sheet, hosts):
-        if not os.path.exists(self.path):
-            self.build()
-        with tempfile.TemporaryDirectory() as folder:
-            with open(f'{folder}/hosts', 'wb') as f:
-                f.write(hosts)
-            try:
-                done = subprocess.run([self.path], cwd=folder, input=sheet, stdout=subprocess.PIPE)
-            except OSError as e:
-                self.stop(f'{self.path}: {e.strerror}')
-        words = done.stdout.split()
-        if done.returncode != 0 or len(words) < 6 or not all(w.isdigit() for w in words):
-            self.stop(f'{self.path} ended with status {done.returncode} and printed {done.stdout[:200]!r}')
-        numbers = [int(w) for w in words]
-        return numbers[:6], numbers[6:]
+# status and length must be those of the kind: half an answer is none
+def answer(program, status, words, table):
+    numbers, rest = words[:6], words[6:]
+    if len(numbers) < 6 or status != (1 if numbers[0] else 0) or len(rest) != (numbers[2] if table and numbers[0] == 0 else 0):
+        raise Failed(f'no verdict: {program} ended with status {status} and printed {len(words)} numbers, first {numbers}')
+    return numbers, rest
 
 # the strings of an intact sheet: its first part, after edition and N
 def strings(sheet):

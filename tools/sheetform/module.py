@@ -4,7 +4,7 @@ import struct
 from .blocks import Broken, from_blocks, to_blocks
 from .codes import CALLEES, EXPORTS, HOOK_COUNT, HOST_KINDS, OPS
 
-# numbers that are "+1" in paper 01 are kept as stored: parent, const, start, and the name of a parameter
+# numbers that are "+ 1" in docs/FORMAT.md, "Lists" are kept as stored: parent, const, start, and the name of a parameter
 Func = namedtuple('Func', 'params results')
 Struct = namedtuple('Struct', 'name parent fields methods')
 Array = namedtuple('Array', 'item')

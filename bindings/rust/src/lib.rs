@@ -1,7 +1,7 @@
 //! A loader for bytecode modules of tariffs, proved for all inputs.
 //!
 //! [`load`] takes the bytes of a sheet and of a host list, which nobody need check first, and either
-//! refuses the sheet ([`LoadError`]) or writes its linked table into lent words ([`Linked`]).
+//! refuses the sheet ([`LoadError`]) or writes its linked table into a borrowed slice ([`Linked`]).
 //! [`Linked::descends`] then says which type belongs to which family.
 //!
 //! ```
@@ -41,6 +41,9 @@ use core::fmt;
 
 pub use error::{FuncId, LoadError, LoadErrorKind, StrId, TypeKind, What};
 
+/// The version of this crate and of the calls, as in CHANGELOG.md.
+pub const VERSION: &str = env!("CARGO_PKG_VERSION");
+
 /// The bytes of a block, the words in it without its check word, and the most blocks of a sheet.
 const BLOCK: usize = 512;
 const BLOCK_WORDS: usize = 127;
@@ -75,7 +78,7 @@ pub const fn work_words(sheet_len: usize) -> usize {
 /// Words that are enough for any sheet.
 pub const MOST_WORDS: usize = table_words(MOST_BLOCKS * BLOCK);
 
-/// Loads a sheet under a host list into the lent words of `table`.
+/// Loads a sheet under a host list into the borrowed slice `table`.
 ///
 /// Accepted: the first words of `table` are the linked table, and those after them are as before.
 /// Refused: no word of `table` is changed. `work` is all zero after the call, except that

@@ -10,7 +10,7 @@ use lib.Dec.{eqb}
 use lib.ListN.{length, getD, take, drop, drop-of-length-le}
 use lib.Seq.{drop-cons, drop-drop, length-take-le}
 use borrow.Author.Tests.{lt-ltb, eq-eqb, ne-eqb}
-use Rattle.lists.specs.Lists.{all, pieces}
+use Rattle.lists.specs.Lists.{allOf, pieces}
 use Rattle.blocks.specs.declared.Frame.the-variants.{Broken, Words}
 use Rattle.blocks.specs.Blocks.{blockBytes, checked, blockCount, blocks, allChecked, words, lengthWord, framed}
 use Rattle.blocks.specs.Frame.{frameOf, blockChecked, zeroFrom}
@@ -72,7 +72,7 @@ module _ (b : List ℕ) (n : ℕ) where
   -- one word more
   zeros-turn : (i : ℕ) → Zeros b n i → i < 127 * (length b / 512) → zeroFrom (words b) n ≡ (eqb 0 (getD (words b) i 0) && zeroFrom (words b) (i + 1))
   unfolding zeroFrom blockCount
-  zeros-turn i s h = s .same ∙ ap (all (eqb 0)) (drop-cons (words b) i 0 (omega (arith, length-words b)) ∙ ap (λ m. getD (words b) i 0 ∷ drop m (words b)) (sym (add-one i)))
+  zeros-turn i s h = s .same ∙ ap (allOf (eqb 0)) (drop-cons (words b) i 0 (omega (arith, length-words b)) ∙ ap (λ m. getD (words b) i 0 ∷ drop m (words b)) (sym (add-one i)))
 
   pub zeros-next : (i : ℕ) {w : ℕ} → Zeros b n i → i < 127 * (length b / 512) → w ≡ 0 → w ≡ getD (words b) i 0 → Zeros b n (i + 1)
   zeros-next i s h z e = record { same = zeros-turn i s h ∙ rw (eq-eqb 0 (getD (words b) i 0) (omega arith)) }
@@ -82,7 +82,7 @@ module _ (b : List ℕ) (n : ℕ) where
 
   pub zeros-end : (i : ℕ) → Zeros b n i → 127 * (length b / 512) ≤ i → true ≡ zeroFrom (words b) n
   unfolding zeroFrom blockCount
-  zeros-end i s h = sym (s .same ∙ ap (all (eqb 0)) (drop-of-length-le (words b) {i = i} (omega (arith, length-words b))))
+  zeros-end i s h = sym (s .same ∙ ap (allOf (eqb 0)) (drop-of-length-le (words b) {i = i} (omega (arith, length-words b))))
 
 pub ruleset zeroing = (zeros-start, zeros-next, zeros-stop, zeros-end)
 
@@ -125,7 +125,7 @@ module _ (b : List ℕ) where
 
   pub frame-filled : {n : ℕ} {z : Bool} → z ≡ false → z ≡ zeroFrom (words b) n → n ≡ getD (words b) 1 0 → Broken ≡ frameOf (framed b)
   unfolding zeroFrom lengthWord
-  frame-filled {n} f e k = broken-if λ i. let t : zeroFrom (words b) n ≡ true = ap (λ m. all (eqb 0) (drop m (words b))) k ∙ i .zero-after in let z : _≡_ {A = ℕ} 0 1 = cc in omega arith
+  frame-filled {n} f e k = broken-if λ i. let t : zeroFrom (words b) n ≡ true = ap (λ m. allOf (eqb 0) (drop m (words b))) k ∙ i .zero-after in let z : _≡_ {A = ℕ} 0 1 = cc in omega arith
 
   pub frame-intact : {n w : ℕ} {r z : Bool} → length b % 512 ≡ 0 → 1 ≤ length b / 512 → length b / 512 ≤ 4096 → r ≡ true → r ≡ allChecked 0 (blocks b)
       → w ≡ 1 → w ≡ getD (words b) 0 0 → n ≡ getD (words b) 1 0 → 127 * (length b / 512 - 1) < n → n ≤ 127 * (length b / 512) → z ≡ true → z ≡ zeroFrom (words b) n
@@ -140,7 +140,7 @@ module _ (b : List ℕ) where
         edition-is = sym e₅ ∙ t₅;
         past-block = omega arith;
         in-block = omega arith;
-        zero-after = ap (λ m. all (eqb 0) (drop m (words b))) (sym e) ∙ sym e₈ ∙ t₈;
+        zero-after = ap (λ m. allOf (eqb 0) (drop m (words b))) (sym e) ∙ sym e₈ ∙ t₈;
       } in
       sym (ap frameOf (intact-framed b i) ∙ ap Words (length-take-le (getD (words b) 1 0) (words b) (omega (arith, length-words b)) ∙ sym e))
 

@@ -8,7 +8,7 @@ use native.Mathlib.Nat.{zero-add, add-zero, mul-le-mul-left}
 use lib.ListN.{length, getD, take, drop, replicate, List·getD-append}
 use lib.Seq.{take-suc, length-take-le, getD-take}
 use borrow.Author.Tests.{ltb-true}
-use Rattle.lists.specs.Lists.{all, mapFrom, pieces}
+use Rattle.lists.specs.Lists.{allOf, mapFrom, pieces}
 use Rattle.lists.specs.ListLaws.{and-first, and-second, length-pieces, getD-pieces, getD-concatMap}
 use Rattle.blocks.specs.Blocks.{blockBytes, blockWords, weighed, checkWord, blockCount, blocks, bytesOf, blocksFor, padded, blockOf, written}
 use Rattle.blocks.specs.ByteLaws.{isByte, length-bytesOf}
@@ -32,12 +32,12 @@ weighed-step i bs j h =
     ∙ ap (λ k. weighed i (take j bs) + k) (add-zero ((i + j) * getD bs j 0))
 
 -- a sum that no 64 bits overflow
-pub weighed-small : (i : ℕ) (bs : List ℕ) → all isByte bs ≡ true → weighed i bs ≤ 255 * ((i + length bs) * length bs)
+pub weighed-small : (i : ℕ) (bs : List ℕ) → allOf isByte bs ≡ true → weighed i bs ≤ 255 * ((i + length bs) * length bs)
 unfolding weighed
 weighed-small i [] h = omega arith
 weighed-small i (b ∷ bs) h =
-    let k : b ≤ 255 = byte-below b (and-first (isByte b) (all isByte bs) h) in
-    omega (arith, weighed-small (suc i) bs (and-second (isByte b) (all isByte bs) h), mul-le-mul-left i k)
+    let k : b ≤ 255 = byte-below b (and-first (isByte b) (allOf isByte bs) h) in
+    omega (arith, weighed-small (suc i) bs (and-second (isByte b) (allOf isByte bs) h), mul-le-mul-left i k)
   where
     byte-below : (b : ℕ) → isByte b ≡ true → b ≤ 255
     byte-below b h = omega (arith, ltb-true b 256 h)

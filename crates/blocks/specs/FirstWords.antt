@@ -7,7 +7,7 @@ use mathlib.Core.Option.{Option, none, some}
 use native.Mathlib.Omega.{arith}
 use lib.ListN.{length, getD, take, replicate, length-append, length-replicate}
 use lib.Seq.{length-take-le, getD-take, take-append-le}
-use Rattle.lists.specs.Lists.{all}
+use Rattle.lists.specs.Lists.{allOf}
 use Rattle.lists.specs.ListLaws.{all-take, all-append, all-replicate}
 use Rattle.blocks.specs.Blocks.{words, lengthWord, framed}
 use Rattle.blocks.specs.declared.Frame.{Frame}
@@ -41,7 +41,7 @@ firstWords-framed b ws e =
     let l = framed-length b ws e in
     ap (λ n. take n (words b ++ replicate n 0)) (l .0) ∙ take-append-le m (words b) (replicate m 0) (l .1) ∙ sym (framed-intact b ws e .1)
 
-pub firstWords-small : (b : List ℕ) (n : ℕ) → all isByte b ≡ true → all isWord (firstWords b n) ≡ true
+pub firstWords-small : (b : List ℕ) (n : ℕ) → allOf isByte b ≡ true → allOf isWord (firstWords b n) ≡ true
 unfolding firstWords
 firstWords-small b n h = all-take isWord n (words b ++ replicate n 0) (all-append isWord (words b) (replicate n 0) (words-small b h) (all-replicate isWord n 0 refl))
 

@@ -5,7 +5,7 @@ use mathlib.Core.Bool.{Bool, _&&_}
 use mathlib.Core.Option.{Option, none, some}
 use lib.Dec.{eqb, ltb}
 use lib.ListN.{length, take, drop, replicate}
-use Rattle.lists.specs.Lists.{all}
+use Rattle.lists.specs.Lists.{allOf}
 use Rattle.blocks.specs.declared.Frame.{Frame}
 use Rattle.blocks.specs.declared.Frame.the-variants.{Broken, Words}
 use Rattle.blocks.specs.Blocks.{blockBytes, checked, blockCount, words}
@@ -20,7 +20,7 @@ blockChecked bytes k = ltb k (blockCount bytes) && checked k (take blockBytes (d
 
 -- the words from word n on are zero
 unfoldable pub zeroFrom : List ℕ → ℕ → Bool
-zeroFrom ws n = all (eqb 0) (drop n ws)
+zeroFrom ws n = allOf (eqb 0) (drop n ws)
 
 -- the first n words, zeros past the last block
 unfoldable pub firstWords : List ℕ → ℕ → List ℕ

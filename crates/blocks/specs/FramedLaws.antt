@@ -9,19 +9,19 @@ use lib.Dec.{eqb, leb, ltb}
 use lib.ListN.{length, getD, take, drop, replicate, length-take, length-drop, take-append-drop}
 use lib.Seq.{take-nil, length-take-le}
 use borrow.Author.Tests.{eqb-true, leb-true, ltb-true, eq-eqb, le-leb, lt-ltb}
-use Rattle.lists.specs.Lists.{all, concatMap, concatMapFrom, pieces}
+use Rattle.lists.specs.Lists.{allOf, concatMap, concatMapFrom, pieces}
 use Rattle.lists.specs.ListLaws.{and-first, and-second, cond-inv, all-from, all-take, all-drop, all-append, length-pieces, drop-take, pieces-concatMap}
 use Rattle.blocks.specs.Blocks.{blockBytes, blockWords, mostBlocks, edition, checkWord, checked, blockCount, blocks, allChecked, intactBlocks, words, lengthWord, endsInLast, intactWords, framed, bytesOf, blocksFor, padded, blockOf, written, titled}
 use Rattle.blocks.specs.ByteLaws.{isByte, isWord, bytesOf-bytes, zeros-drop}
 use Rattle.blocks.specs.WordLaws.{wordsIn, length-wordsIn, length-words, byteOf, word-bytes-at}
 use Rattle.blocks.specs.WrittenLaws.{take-replicate, filled, blockOf-words}
 
-pub byte-small : (bytes : List ℕ) → all isByte bytes ≡ true → (i : ℕ) → getD bytes i 0 < 256
+pub byte-small : (bytes : List ℕ) → allOf isByte bytes ≡ true → (i : ℕ) → getD bytes i 0 < 256
 byte-small [] h i = omega arith
-byte-small (b ∷ bs) h zero = ltb-true b 256 (and-first (isByte b) (all isByte bs) h)
-byte-small (b ∷ bs) h (suc i) = byte-small bs (and-second (isByte b) (all isByte bs) h) i
+byte-small (b ∷ bs) h zero = ltb-true b 256 (and-first (isByte b) (allOf isByte bs) h)
+byte-small (b ∷ bs) h (suc i) = byte-small bs (and-second (isByte b) (allOf isByte bs) h) i
 
-pub words-small : (bytes : List ℕ) → all isByte bytes ≡ true → all isWord (words bytes) ≡ true
+pub words-small : (bytes : List ℕ) → allOf isByte bytes ≡ true → allOf isWord (words bytes) ≡ true
 words-small bytes h =
     all-from isWord (words bytes) 0 λ i k.
     let j = byteOf i in
@@ -29,21 +29,21 @@ words-small bytes h =
     lt-ltb (getD (words bytes) i 0) 4294967296 (omega (arith, e, byte-small bytes h j, byte-small bytes h (j + 1), byte-small bytes h (j + 2), byte-small bytes h (j + 3)))
 
 -- all zeros, filled up
-zeros-filled : (m r : ℕ) (xs : List ℕ) → m ≤ r → all (eqb 0) xs ≡ true → take m (take m xs ++ replicate r 0) ≡ replicate m 0
+zeros-filled : (m r : ℕ) (xs : List ℕ) → m ≤ r → allOf (eqb 0) xs ≡ true → take m (take m xs ++ replicate r 0) ≡ replicate m 0
 zeros-filled zero r xs h z = refl
 zeros-filled (suc m) r [] h z = take-replicate (suc m) r 0 h
 zeros-filled (suc m) r (x ∷ xs) h z =
-    let e : 0 ≡ x = eqb-true 0 x (and-first (eqb 0 x) (all (eqb 0) xs) z) in
-    ap₂ _∷_ (sym e) (zeros-filled m r xs (omega arith) (and-second (eqb 0 x) (all (eqb 0) xs) z))
+    let e : 0 ≡ x = eqb-true 0 x (and-first (eqb 0 x) (allOf (eqb 0) xs) z) in
+    ap₂ _∷_ (sym e) (zeros-filled m r xs (omega arith) (and-second (eqb 0 x) (allOf (eqb 0) xs) z))
 
-fill-cut : (m n r : ℕ) (xs : List ℕ) → m ≤ r → all (eqb 0) (drop n xs) ≡ true → take m (take m (take n xs) ++ replicate r 0) ≡ take m (take m xs ++ replicate r 0)
+fill-cut : (m n r : ℕ) (xs : List ℕ) → m ≤ r → allOf (eqb 0) (drop n xs) ≡ true → take m (take m (take n xs) ++ replicate r 0) ≡ take m (take m xs ++ replicate r 0)
 fill-cut m zero r xs h z = ap (λ l. take m (l ++ replicate r 0)) (take-nil m) ∙ take-replicate m r 0 h ∙ sym (zeros-filled m r xs h z)
 fill-cut m (suc n) r [] h z = refl
 fill-cut zero (suc n) r (x ∷ xs) h z = refl
 fill-cut (suc m) (suc n) r (x ∷ xs) h z = ap (λ l. x ∷ l) (fill-cut m n r xs (omega arith) z)
 
 -- zeros at the end are not written
-blocks-cut : (k j n : ℕ) (xs : List ℕ) → all (eqb 0) (drop n xs) ≡ true
+blocks-cut : (k j n : ℕ) (xs : List ℕ) → allOf (eqb 0) (drop n xs) ≡ true
     → concatMapFrom k blockOf (pieces blockWords j (take n xs)) ≡ concatMapFrom k blockOf (pieces blockWords j xs)
 unfolding blockOf padded
 blocks-cut k zero n xs z = refl
@@ -52,7 +52,7 @@ blocks-cut k (suc j) n xs z =
     (ap (λ l. concatMap (bytesOf 4) l ++ bytesOf 4 (checkWord k (concatMap (bytesOf 4) l))) (fill-cut blockWords n blockWords xs (omega arith) z))
     (ap (λ l. concatMapFrom (suc k) blockOf (pieces blockWords j l)) (drop-take blockWords n xs) ∙ blocks-cut (suc k) j (n - blockWords) (drop blockWords xs) (zeros-drop blockWords n xs z))
 
-reblocked : (n k : ℕ) (bytes : List ℕ) → length bytes ≡ blockBytes * n → all isByte bytes ≡ true → allChecked k (pieces blockBytes n bytes) ≡ true
+reblocked : (n k : ℕ) (bytes : List ℕ) → length bytes ≡ blockBytes * n → allOf isByte bytes ≡ true → allChecked k (pieces blockBytes n bytes) ≡ true
     → concatMapFrom k blockOf (map wordsIn (pieces blockBytes n bytes)) ≡ bytes
 unfolding allChecked
 reblocked zero k [] l h c = refl
@@ -75,7 +75,7 @@ pub record Intact (bytes : List ℕ) (n : ℕ) : Type 0 where
   pub edition-is : getD (words bytes) 0 0 ≡ edition
   pub past-block : blockWords * (n - 1) < lengthWord (words bytes)
   pub in-block : lengthWord (words bytes) ≤ blockWords * n
-  pub zero-after : all (eqb 0) (drop (lengthWord (words bytes)) (words bytes)) ≡ true
+  pub zero-after : allOf (eqb 0) (drop (lengthWord (words bytes)) (words bytes)) ≡ true
 
 pub framed-intact : (bytes ws : List ℕ) → framed bytes ≡ some ws → Intact bytes (blockCount bytes) × (ws ≡ take (lengthWord (words bytes)) (words bytes))
 unfolding framed intactBlocks intactWords endsInLast blocks
@@ -89,7 +89,7 @@ framed-intact bytes ws e =
     let b₄ = allChecked 0 (pieces blockBytes n bytes) in
     let c₁ = eqb (getD w 0 0) edition in
     let c₂ = ltb (blockWords * (n - 1)) m && leb m (blockWords * n) in
-    let c₃ = all (eqb 0) (drop m w) in
+    let c₃ = allOf (eqb 0) (drop m w) in
     let i₃ = and-first (b₁ && b₂ && b₃) b₄ ib in
     let i₂ = and-first (b₁ && b₂) b₃ i₃ in
     let j = and-first (c₁ && c₂) c₃ iw in
@@ -123,22 +123,22 @@ framed-intact bytes ws e =
 pub record Framed (bytes ws : List ℕ) : Type 0 where
   pub bytes-are : bytes ≡ written ws
   pub titled-as : ws ≡ titled (drop 2 ws)
-  pub are-words : all isWord ws ≡ true
+  pub are-words : allOf isWord ws ≡ true
   pub few : blocksFor (length ws) ≤ mostBlocks
   pub length-is : length ws ≡ lengthWord (words bytes)
 
-title-of : (w : List ℕ) (n : ℕ) → getD w 0 0 ≡ edition → getD w 1 0 ≡ n → n ≤ length w → 1 ≤ n → all (eqb 0) (drop n w) ≡ true → take n w ≡ titled (drop 2 (take n w))
+title-of : (w : List ℕ) (n : ℕ) → getD w 0 0 ≡ edition → getD w 1 0 ≡ n → n ≤ length w → 1 ≤ n → allOf (eqb 0) (drop n w) ≡ true → take n w ≡ titled (drop 2 (take n w))
 unfolding titled
 title-of [] n a b l h z = absurd (omega arith)
 title-of (x ∷ []) n a b l h z = absurd (omega arith)
 title-of (x ∷ y ∷ w) zero a b l h z = absurd (omega arith)
 title-of (x ∷ y ∷ w) (suc zero) a b l h z =
-    let e : 0 ≡ y = eqb-true 0 y (and-first (eqb 0 y) (all (eqb 0) w) z) in absurd (omega arith)
+    let e : 0 ≡ y = eqb-true 0 y (and-first (eqb 0 y) (allOf (eqb 0) w) z) in absurd (omega arith)
 title-of (x ∷ y ∷ w) (suc (suc n)) a b l h z =
     let e : y ≡ length (take n w) + 2 = omega (arith, length-take n w) in
     ap₂ (λ u v. u ∷ v ∷ take n w) a e
 
-pub framed-bytes : (bytes ws : List ℕ) → all isByte bytes ≡ true → framed bytes ≡ some ws → Framed bytes ws
+pub framed-bytes : (bytes ws : List ℕ) → allOf isByte bytes ≡ true → framed bytes ≡ some ws → Framed bytes ws
 unfolding written blocksFor
 framed-bytes bytes ws h e =
     let i = framed-intact bytes ws e in
@@ -172,24 +172,24 @@ framed-bytes bytes ws h e =
         ∙ pieces-concatMap wordsIn blockWords length-wordsIn (pieces blockBytes (blockCount bytes) bytes)
 
 -- two sheets of the same words are the same
-pub framed-same : (s t ws : List ℕ) → all isByte s ≡ true → all isByte t ≡ true → framed s ≡ some ws → framed t ≡ some ws → s ≡ t
+pub framed-same : (s t ws : List ℕ) → allOf isByte s ≡ true → allOf isByte t ≡ true → framed s ≡ some ws → framed t ≡ some ws → s ≡ t
 framed-same s t ws h k d e = framed-bytes s ws h d .bytes-are ∙ sym (framed-bytes t ws k e .bytes-are)
 
 -- what is written is bytes
-pub written-bytes : (ws : List ℕ) → all isByte (written ws) ≡ true
+pub written-bytes : (ws : List ℕ) → allOf isByte (written ws) ≡ true
 unfolding written
 written-bytes ws = go 0 (pieces blockWords (blocksFor (length ws)) ws)
   where
-    words-bytes : (xs : List ℕ) → all isByte (concatMap (bytesOf 4) xs) ≡ true
+    words-bytes : (xs : List ℕ) → allOf isByte (concatMap (bytesOf 4) xs) ≡ true
     words-bytes [] = refl
     words-bytes (x ∷ xs) = all-append isByte (bytesOf 4 x) (concatMap (bytesOf 4) xs) (bytesOf-bytes 4 x) (words-bytes xs)
 
-    block : (k : ℕ) (p : List ℕ) → all isByte (blockOf k p) ≡ true
+    block : (k : ℕ) (p : List ℕ) → allOf isByte (blockOf k p) ≡ true
     block k p =
         unfold blockOf padded in
         all-append isByte (padded p) (bytesOf 4 (checkWord k (padded p))) (words-bytes (filled p)) (bytesOf-bytes 4 (checkWord k (padded p)))
 
-    go : (k : ℕ) (ps : List (List ℕ)) → all isByte (concatMapFrom k blockOf ps) ≡ true
+    go : (k : ℕ) (ps : List (List ℕ)) → allOf isByte (concatMapFrom k blockOf ps) ≡ true
     go k [] = refl
     go k (p ∷ ps) = all-append isByte (blockOf k p) (concatMapFrom (suc k) blockOf ps) (block k p) (go (suc k) ps)
 

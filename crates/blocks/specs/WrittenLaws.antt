@@ -9,7 +9,7 @@ use lib.Dec.{eqb}
 use lib.ListN.{length, take, drop, replicate, length-append, length-take, length-drop, length-replicate, take-append-drop}
 use lib.Seq.{take-at, drop-at, take-all, length-take-le, take-append-add}
 use borrow.Author.Tests.{eqb-true, eq-eqb, le-leb, lt-ltb}
-use Rattle.lists.specs.Lists.{all, concatMap, mapFrom, concatMapFrom, pieces}
+use Rattle.lists.specs.Lists.{allOf, concatMap, mapFrom, concatMapFrom, pieces}
 use Rattle.lists.specs.ListLaws.{both, all-take, all-drop, all-append, all-replicate, length-concatMap, length-concatMapFrom, length-pieces, pieces-join, pieces-take, pieces-concatMapFrom}
 use Rattle.blocks.specs.Blocks.{blockBytes, blockWords, checkedBytes, mostBlocks, edition, number, checkWord, checked, blockCount, blocks, allChecked, intactBlocks, words, lengthWord, endsInLast, intactWords, framed, bytesOf, blocksFor, padded, blockOf, written, titled}
 use Rattle.blocks.specs.ByteLaws.{isByte, isWord, length-bytesOf, number-bytesOf, bytesOf-number, bytes-of-words, words-of-bytes}
@@ -49,7 +49,7 @@ blockOf-checked k ws =
     let d : drop checkedBytes (padded ws ++ bytesOf 4 c) ≡ bytesOf 4 c = drop-at (padded ws) (bytesOf 4 c) checkedBytes (length-padded ws) in
     eq-eqb _ _ (ap number d ∙ number-bytesOf 4 c (omega (arith, check-small k (padded ws))) ∙ ap (checkWord k) (sym t))
 
-pub words-blockOf : (k : ℕ) (ws : List ℕ) → all isWord ws ≡ true → wordsIn (blockOf k ws) ≡ filled ws
+pub words-blockOf : (k : ℕ) (ws : List ℕ) → allOf isWord ws ≡ true → wordsIn (blockOf k ws) ≡ filled ws
 unfolding blockOf padded
 words-blockOf k ws h =
     let c = bytesOf 4 (checkWord k (padded ws)) in
@@ -57,7 +57,7 @@ words-blockOf k ws h =
     ∙ words-of-bytes (filled ws) c (all-take isWord blockWords (ws ++ replicate blockWords 0) (all-append isWord ws (replicate blockWords 0) h (all-replicate isWord blockWords 0 refl)))
 
 -- a block that ends with its check word is written by its words
-pub blockOf-words : (k : ℕ) (block : List ℕ) → length block ≡ blockBytes → all isByte block ≡ true → checked k block ≡ true → blockOf k (wordsIn block) ≡ block
+pub blockOf-words : (k : ℕ) (block : List ℕ) → length block ≡ blockBytes → allOf isByte block ≡ true → checked k block ≡ true → blockOf k (wordsIn block) ≡ block
 unfolding blockOf padded checked
 blockOf-words k block l h c =
     let front = take checkedBytes block in
@@ -103,7 +103,7 @@ all-blockOf k [] = refl
 all-blockOf k (p ∷ ps) = both (blockOf-checked k p) (all-blockOf (suc k) ps)
 
 -- the words of written blocks, from a block on
-words-of-blocks : (k n : ℕ) (ws : List ℕ) → all isWord ws ≡ true → concatMap wordsIn (mapFrom k blockOf (pieces blockWords n ws)) ≡ concatMap (λ x. x ++ replicate (blockWords - length x) 0) (pieces blockWords n ws)
+words-of-blocks : (k n : ℕ) (ws : List ℕ) → allOf isWord ws ≡ true → concatMap wordsIn (mapFrom k blockOf (pieces blockWords n ws)) ≡ concatMap (λ x. x ++ replicate (blockWords - length x) 0) (pieces blockWords n ws)
 words-of-blocks k zero ws h = refl
 words-of-blocks k (suc n) ws h =
     let p = take blockWords ws in
@@ -117,7 +117,7 @@ words-of-blocks k (suc n) ws h =
         ∙ take-append-add p (replicate blockWords 0) (blockWords - length p)
         ∙ ap (λ x. p ++ x) (take-replicate (blockWords - length p) blockWords 0 (omega arith))
 
-pub words-written : (ws : List ℕ) → all isWord ws ≡ true → words (written ws) ≡ ws ++ replicate (blockWords * blocksFor (length ws) - length ws) 0
+pub words-written : (ws : List ℕ) → allOf isWord ws ≡ true → words (written ws) ≡ ws ++ replicate (blockWords * blocksFor (length ws) - length ws) 0
 unfolding words blocksFor
 words-written ws h =
     ap (concatMap wordsIn) (blocks-written ws)
@@ -141,25 +141,25 @@ written-intact ws h k =
     (le-leb (blockCount (written ws)) mostBlocks (omega arith)))
     (ap (allChecked 0) (blocks-written ws) ∙ all-blockOf 0 (pieces blockWords (blocksFor (length ws)) ws))
 
-titled-intact : (body : List ℕ) (n : ℕ) → blocksFor (length (titled body)) ≡ n → (zs : List ℕ) → all (eqb 0) zs ≡ true → intactWords n (titled body ++ zs) ≡ true
+titled-intact : (body : List ℕ) (n : ℕ) → blocksFor (length (titled body)) ≡ n → (zs : List ℕ) → allOf (eqb 0) zs ≡ true → intactWords n (titled body ++ zs) ≡ true
 unfolding intactWords lengthWord endsInLast titled blocksFor
 titled-intact body n e zs z =
     both
     (both refl (both (lt-ltb (blockWords * (n - 1)) (length body + 2) (omega arith)) (le-leb (length body + 2) (blockWords * n) (omega arith))))
-    (ap (all (eqb 0)) (drop-at (edition ∷ (length body + 2) ∷ body) zs (length body + 2) (omega arith)) ∙ z)
+    (ap (allOf (eqb 0)) (drop-at (edition ∷ (length body + 2) ∷ body) zs (length body + 2) (omega arith)) ∙ z)
 
 title-length : (body zs : List ℕ) → lengthWord (titled body ++ zs) ≡ length (titled body)
 unfolding titled lengthWord
 title-length body zs = omega arith
 
 -- N of what was written
-pub lengthWord-written : (body : List ℕ) → all isWord (titled body) ≡ true → lengthWord (words (written (titled body))) ≡ length (titled body)
+pub lengthWord-written : (body : List ℕ) → allOf isWord (titled body) ≡ true → lengthWord (words (written (titled body))) ≡ length (titled body)
 lengthWord-written body h =
     let ws = titled body in
     ap lengthWord (words-written ws h) ∙ title-length body (replicate (blockWords * blocksFor (length ws) - length ws) 0)
 
 -- the words that were written, read back
-pub framed-written : (body : List ℕ) → all isWord (titled body) ≡ true → blocksFor (length (titled body)) ≤ mostBlocks → framed (written (titled body)) ≡ some (titled body)
+pub framed-written : (body : List ℕ) → allOf isWord (titled body) ≡ true → blocksFor (length (titled body)) ≤ mostBlocks → framed (written (titled body)) ≡ some (titled body)
 unfolding framed
 framed-written body h k =
     let ws = titled body in

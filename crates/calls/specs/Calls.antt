@@ -2,27 +2,27 @@
 use mathlib.Core.Path.{_≡_}
 use mathlib.Core.Logic.{_↔_}
 use mathlib.Core.Bool.{Bool, true, false}
-use mathlib.Core.List.{List, [], _∷_}
+use mathlib.Core.List.{List, [], _∷_, _++_}
 use mathlib.Core.Option.{none, some}
 use Prim.Native.Nat.{ℕ, _<_}
-use lib.Dec.{T}
 use lib.ListN.{length, getD, take, drop, replicate}
-use Rattle.lists.specs.Lists.{contains}
+use Rattle.lists.specs.Lists.{allOf, contains}
+use Rattle.blocks.specs.Blocks.{isByte, isWord}
 use Rattle.error.specs.declared.LoadErrorKind.the-variants.{Decode, BadHostList, ShortSlice}
 use Rattle.error.specs.declared.LoadError.{LoadError}
 use Rattle.error.specs.declared.Loaded.{Loaded}
 use Rattle.error.specs.declared.Loaded.the-variants.{Accepted, Refused}
-use Rattle.error.specs.Answer.{kindNumbers, inModule}
+use Rattle.error.specs.Answer.{kindNumbers, numbers, refusal, isAccepted, inModule}
 use Rattle.sheet.specs.Module.{Module}
 use Rattle.sheet.specs.Decode.{decode}
 use Rattle.host.specs.Host.{HostFn, decodeHosts}
 use Rattle.parents.specs.Parents.{mostOnChain}
+use Rattle.spans.specs.Spans.{Descendant}
 use Rattle.table.specs.Table.{tableWords}
 use Rattle.descends.specs.Descends.{descends}
 use Rattle.load.specs.Load.{moduleFaults, longEnough, load, tableAfter, workAfter}
 use Rattle.law_linked.specs.Find.{hooksIn, canonIn, catchIn}
-use Rattle.renumber.specs.Renumber.{image, renumber}
-use Rattle.law_renumbering.specs.Statement.{Descendant, isAccepted, RenumberedSheet}
+use Rattle.renumber.specs.Renumber.{image, renumber, RenumberedSheet}
 
 -- ── calls ──
 
@@ -32,7 +32,13 @@ pub record Loads (sheet hosts table work : List ℕ) (r : Loaded) (left workLeft
   pub leaves : left ≡ tableAfter sheet hosts table work
   pub clears : workLeft ≡ workAfter sheet hosts table work
 
--- x is answered: what `descends` of crate query ensures, so each call of it gives one
+-- the same call for C and Rust, which gives the six numbers: what `paqlluri_load` of crate paqlluri ensures
+pub record LoadsNumbers (sheet hosts table work six left workLeft : List ℕ) : Type 0 where
+  pub answered : Loaded
+  pub loads : Loads sheet hosts table work answered left workLeft
+  pub numbered : six ≡ numbers answered
+
+-- x is answered: what `descends` of crate query and `paqlluri_descends` ensure, so each call of them gives one
 pub record Asks (table : List ℕ) (t a x : ℕ) : Type 0 where
   pub answers : x ≡ descends table t a
 
@@ -43,21 +49,28 @@ unfoldable pub isEarly : Loaded → Bool
 isEarly (Accepted l) = false
 isEarly (Refused e) = contains (1 ∷ 23 ∷ 24 ∷ []) (getD (kindNumbers (e .kind)) 0 0)
 
+-- a is answered exactly where P holds, and so are the six numbers
+unfoldable pub Exactly : Loaded → Loaded → List ℕ → Type 0 → Type 0
+Exactly r a six P = ((r ≡ a) ↔ P) × ((numbers r ≡ six) ↔ P)
+
 -- the answer: the cases leave nothing out
 pub record Verdict (sheet hosts : List ℕ) (table work : ℕ) (r : Loaded) : Type 0 where
   -- 1 exactly where nothing is decoded
-  pub brokenSheet : (r ≡ Refused (inModule Decode)) ↔ (decode sheet ≡ none)
+  pub brokenSheet : Exactly r (Refused (inModule Decode)) (refusal 1) (decode sheet ≡ none)
   -- 23 exactly where the host list is not
-  pub brokenHosts : (m : Module) → decode sheet ≡ some m → (r ≡ Refused (inModule BadHostList)) ↔ (decodeHosts hosts ≡ none)
+  pub brokenHosts : (m : Module) → decode sheet ≡ some m →
+      Exactly r (Refused (inModule BadHostList)) (refusal 23) (decodeHosts hosts ≡ none)
   -- 24 exactly where table or work is too short
   pub shortSlice : (m : Module) (hs : List HostFn) → decode sheet ≡ some m → decodeHosts hosts ≡ some hs →
-      (r ≡ Refused (inModule ShortSlice)) ↔ (longEnough sheet table work ≡ false)
+      Exactly r (Refused (inModule ShortSlice)) (refusal 24) (longEnough sheet table work ≡ false)
   -- accepted exactly where no rule is broken, and with so many words
   pub accepted : (m : Module) (hs : List HostFn) (l : ℕ) → decode sheet ≡ some m → decodeHosts hosts ≡ some hs → longEnough sheet table work ≡ true →
-      (r ≡ Accepted l) ↔ ((moduleFaults mostOnChain hs m ≡ []) × (l ≡ length (tableWords mostOnChain hs m)))
-  -- else refused for the first that is
+      Exactly r (Accepted l) (0 ∷ 0 ∷ l ∷ 0 ∷ 0 ∷ 0 ∷ [])
+      ((moduleFaults mostOnChain hs m ≡ []) × (l ≡ length (tableWords mostOnChain hs m)))
+  -- else refused for the first that is: its kind in four numbers, then its place
   pub refused : (m : Module) (hs : List HostFn) (e : LoadError) (es : List LoadError) → decode sheet ≡ some m → decodeHosts hosts ≡ some hs →
-      longEnough sheet table work ≡ true → moduleFaults mostOnChain hs m ≡ e ∷ es → r ≡ Refused e
+      longEnough sheet table work ≡ true → moduleFaults mostOnChain hs m ≡ e ∷ es →
+      (r ≡ Refused e) × (numbers r ≡ kindNumbers (e .kind) ++ (e .func ∷ e .pc ∷ []))
 
 -- the slices after the call
 pub record Slices (sheet hosts table work : List ℕ) (r : Loaded) (left workLeft : List ℕ) : Type 0 where
@@ -80,16 +93,20 @@ RefusesRight =
 
 -- ── the family ──
 
+-- words that begin with the first l of those left: the linked table as it is passed on, alone or with any rest
+unfoldable pub Begins : ℕ → List ℕ → List ℕ → Type 0
+Begins l left words = take l words ≡ take l left
+
 -- every query on the table answers yes, 1, just where t is a descendant of a; else no, 0; never 25
 pub record FamilyAsked (m : Module) (table : List ℕ) : Type 0 where
   pub yes : (t a x : ℕ) → Asks table t a x → (x ≡ 1) ↔ Descendant (m .types) t a
   pub no : (t a x : ℕ) → Asks table t a x → (Descendant (m .types) t a → ⊥) → x ≡ 0
 
--- of every call that accepts an intact sheet
+-- of every call that accepts an intact sheet with l words, on what it left and on any words that begin so
 unfoldable pub FamilyRight : Type 0
 FamilyRight =
     (sheet hosts table work : List ℕ) (l : ℕ) (left workLeft : List ℕ) (m : Module) → decode sheet ≡ some m →
-    Loads sheet hosts table work (Accepted l) left workLeft → FamilyAsked m left
+    Loads sheet hosts table work (Accepted l) left workLeft → (words : List ℕ) → Begins l left words → FamilyAsked m words
 
 -- ── demand 3: numbering does not matter ──
 
@@ -97,7 +114,7 @@ FamilyRight =
 unfoldable pub NotShort : Loaded → Type 0
 NotShort r = r ≡ Refused (inModule ShortSlice) → ⊥
 
--- what the tables that two calls left have in common; r takes each type of the first sheet to its number in the second
+-- what two tables have in common; r takes each type of the first sheet to its number in the second
 pub record AgreeAsked (r : List ℕ) (m : Module) (left leftAlso : List ℕ) : Type 0 where
   -- of all numbers, unknown ones too
   pub families : (t a x y : ℕ) → Asks left t a x → Asks leftAlso (image r t) (image r a) y → x ≡ y
@@ -108,10 +125,11 @@ pub record AgreeAsked (r : List ℕ) (m : Module) (left leftAlso : List ℕ) : T
   pub hooks : hooksIn left ≡ hooksIn leftAlso
   pub catches : (f : ℕ) → f < length (m .funcs) → catchIn left f ≡ catchIn leftAlso f
 
--- both accepted or both refused; accepted, the tables agree
+-- both accepted or both refused; accepted with l and k words, what they left agrees, and so do any words that begin so
 pub record Alike (r : List ℕ) (m : Module) (x y : Loaded) (left leftAlso : List ℕ) : Type 0 where
   pub together : isAccepted x ≡ isAccepted y
-  pub agree : T (isAccepted x) → AgreeAsked r m left leftAlso
+  pub agree : (l k : ℕ) → x ≡ Accepted l → y ≡ Accepted k → (words wordsAlso : List ℕ) → Begins l left words → Begins k leftAlso wordsAlso →
+      AgreeAsked r m words wordsAlso
 
 -- of every two calls under one host list on sheets that differ by one renumbering, whatever the slices hold
 unfoldable pub NumberingFree : Type 0
@@ -123,17 +141,24 @@ NumberingFree =
 
 -- ── cheap loaders ──
 
--- whatever answers and writes as `load` does, on any bytes and slices
+-- what code can be lent: slices of bytes and of words
+pub record Lent (sheet hosts table work : List ℕ) : Type 0 where
+  pub sheetHolds : allOf isByte sheet ≡ true
+  pub hostsHold : allOf isByte hosts ≡ true
+  pub tableHolds : allOf isWord table ≡ true
+  pub workHolds : allOf isWord work ≡ true
+
+-- whatever answers and writes as `load` does, on any bytes and slices of words
 pub record Loader : Type 0 where
   pub answer : List ℕ → List ℕ → List ℕ → List ℕ → Loaded
   pub table : List ℕ → List ℕ → List ℕ → List ℕ → List ℕ
   pub work : List ℕ → List ℕ → List ℕ → List ℕ → List ℕ
-  pub loads : (s h t w : List ℕ) → Loads s h t w (answer s h t w) (table s h t w) (work s h t w)
+  pub loads : (s h t w : List ℕ) → Lent s h t w → Loads s h t w (answer s h t w) (table s h t w) (work s h t w)
 
 -- none gives one answer to all
 unfoldable pub NoConstant : Type 0
-NoConstant = (f : Loader) (r : Loaded) → ((s h t w : List ℕ) → f .answer s h t w ≡ r) → ⊥
+NoConstant = (f : Loader) (r : Loaded) → ((s h t w : List ℕ) → Lent s h t w → f .answer s h t w ≡ r) → ⊥
 
 -- none leaves every table as it was
 unfoldable pub NoIdle : Type 0
-NoIdle = (f : Loader) → ((s h t w : List ℕ) → f .table s h t w ≡ t) → ⊥
+NoIdle = (f : Loader) → ((s h t w : List ℕ) → Lent s h t w → f .table s h t w ≡ t) → ⊥

@@ -7,7 +7,7 @@ use Prim.Native.Nat.{ℕ, _≤_, _<_}
 use native.Mathlib.Omega.{arith}
 use native.Mathlib.Decide.{decLt}
 use lib.ListN.{length, getD}
-use Rattle.lists.specs.Lists.{all, firstAt, same}
+use Rattle.lists.specs.Lists.{allOf, firstAt, same}
 use Rattle.lists.specs.ListLaws.{same-eq, same-self}
 use Rattle.lists.specs.FirstLaws.{first-most, first-in, first-passes, first-before}
 use Rattle.sheet.specs.Module.{TypeDef, coroutine, isStruct, typeAt}
@@ -87,7 +87,7 @@ module _ (types : List TypeDef) where
       let g : sameType (typeAt types t) (typeAt types u) ≡ true = type-same (typeAt types t) (typeAt types u) (sym e) in
       let z : _≡_ {A = ℕ} 0 1 = cc in omega arith
 
-  module _ (good : all codedType types ≡ true) where
+  module _ (good : allOf codedType types ≡ true) where
     found : (d : TypeDef) → codedType d ≡ true → firstAt (sameType d) types < length types → d ≡ typeAt types (firstAt (sameType d) types)
     unfolding typeAt
     found d g h = same-type d (typeAt types (firstAt (sameType d) types)) g (good-at types good (firstAt (sameType d) types)) (first-passes (sameType d) coroutine types h)

@@ -1,4 +1,6 @@
 // What programs share: input of at most 16 blocks, and the six numbers in print.
+ghost use Prim.Native.Nat.{_≤_};
+ghost use Rattle.io.specs.Counts.{Counts};
 use error::numbers::SixNumbers;
 use libc::STDOUT_FILENO;
 
@@ -19,7 +21,10 @@ pub fn print_numbers(n: SixNumbers) {
 }
 
 // Over 16 blocks count as no bytes.
-pub fn read_input(fd: i32, bytes: &mut [u8; 8193]) -> usize {
+pub fn read_input(fd: i32, bytes: &mut [u8; 8193]) -> usize
+    ensures { λ r. ⌜ r ≤ 8192 ⌝ }
+    ensures { λ r. ⌜ Counts r (now (bytes .exit)) ⌝ }
+{
     let n = io::read_full(fd, bytes);
     if n < 8193 {
         return n;
@@ -28,7 +33,10 @@ pub fn read_input(fd: i32, bytes: &mut [u8; 8193]) -> usize {
 }
 
 // So does a file that cannot be opened.
-pub fn read_file(name: &[u8], bytes: &mut [u8; 8193]) -> usize {
+pub fn read_file(name: &[u8], bytes: &mut [u8; 8193]) -> usize
+    ensures { λ r. ⌜ r ≤ 8192 ⌝ }
+    ensures { λ r. ⌜ Counts r (now (bytes .exit)) ⌝ }
+{
     let fd = os::open_read(name);
     if fd < 0 {
         return 0;

@@ -3,7 +3,6 @@ ghost use mathlib.Core.Path.{_≡_};
 ghost use mathlib.Core.List.{[], _∷_, _++_};
 ghost use Rattle.error.specs.Answer.{whatWord, typeKindWord, kindNumbers, numbers};
 ghost use Rattle.error.specs.Numbers.{sixOf};
-use crate::LoadError;
 use crate::LoadErrorKind;
 use crate::Loaded;
 use crate::TypeKind;

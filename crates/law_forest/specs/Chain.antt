@@ -7,7 +7,7 @@ use Prim.Native.Nat.{ℕ, zero, suc, _≤_, _<_}
 use native.Mathlib.Omega.{arith}
 use native.Mathlib.Decide.{ℕ-discrete}
 use lib.Dec.{T}
-use Rattle.lists.specs.Lists.{any, concatMap}
+use Rattle.lists.specs.Lists.{anyOf, concatMap}
 use Rattle.law_counting.specs.Counting.{count, tick-is, tick-not}
 use Rattle.sheet.specs.Module.{TypeDef}
 use Rattle.parents.specs.Forest.{Entry, other, root, sub, entryAt, parents, walk, chain}
@@ -62,7 +62,7 @@ unfolding ends chain walk parents isRoot
 ends-struct types zero t h = absurd h
 ends-struct types (suc f) t h = go (entryAt types t) h
   where
-    go : (x : Entry) → T (isRoot x || any (λ y. isRoot (entryAt types y)) (concatMap (chain types f) (parents x))) → T (isStructEntry x)
+    go : (x : Entry) → T (isRoot x || anyOf (λ y. isRoot (entryAt types y)) (concatMap (chain types f) (parents x))) → T (isStructEntry x)
     go other h = absurd h
     go root h = tt
     go (sub p) h = tt

@@ -7,7 +7,7 @@ use native.Mathlib.Decide.{decLt}
 use lib.Dec.{T}
 use lib.ListN.{length}
 use native.Mathlib.Omega.{arith}
-use Rattle.lists.specs.Lists.{any, concatMap, from}
+use Rattle.lists.specs.Lists.{anyOf, concatMap, from}
 use Rattle.law_counting.specs.Counting.{tick, count, sum, bool-ext, count-concatMap, sum-ext, exchange, length-by-counts, sum-ticks-le}
 use Rattle.law_counting.specs.Places.{count-places}
 use Rattle.sheet.specs.Module.{TypeDef, coroutine, structOf, typeAt}
@@ -35,7 +35,7 @@ roots-in types (suc f) t = go (entryAt types t) (λ p. roots-in types f p)
   where
     go : (x : Entry) → ((p : ℕ) → sum (λ y. tick (isRoot (entryAt types y))) (chain types f p) ≡ tick (ends types f p)) →
         tick (isRoot x) + sum (λ y. tick (isRoot (entryAt types y))) (concatMap (chain types f) (parents x)) ≡
-        tick (isRoot x || any (λ y. isRoot (entryAt types y)) (concatMap (chain types f) (parents x)))
+        tick (isRoot x || anyOf (λ y. isRoot (entryAt types y)) (concatMap (chain types f) (parents x)))
     go other ih = refl
     go root ih = refl
     go (sub p) ih = rw append-nil (omega (arith, ih p))

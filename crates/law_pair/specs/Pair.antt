@@ -1,40 +1,69 @@
--- The theorem on renumbered sheets is about something: two sheets, a renumbering, and a call that is accepted.
+-- `numbering-free` is about something: two sheets that differ by a renumbering, two calls that accept them, and what is carried over.
 use mathlib.Core.Path.{_≡_, refl, sym, _∙_}
-use mathlib.Core.List.{List, [], _∷_}
+use mathlib.Core.List.{List, [], _∷_, _++_}
+use mathlib.Core.Option.{none}
 use Prim.Native.Nat.{ℕ}
-use lib.ListN.{replicate}
-use lib.Dec.{T}
-use Rattle.sheet.specs.Module.{struct, coroutine, Module}
+use native.Mathlib.Omega.{arith}
+use lib.ListN.{getD, replicate}
+use Rattle.error.specs.declared.Loaded.{Loaded}
+use Rattle.error.specs.declared.Loaded.the-variants.{Accepted}
+use Rattle.error.specs.Answer.{numbers}
+use Rattle.sheet.specs.Module.{dyn, func, TypeDef, struct, coroutine, Handler, Inst, Func, Module}
 use Rattle.sheet.specs.Encode.{sheetOf}
 use Rattle.host.specs.Host.{hostsOf}
+use Rattle.table.specs.Records.{noHandler}
+use Rattle.law_linked.specs.Find.{sectionFrom, counted, afterCounted, hooksIn, canonIn, toCatch, catchFirst, afterCatch, afterFuncs, catchIn}
 use Rattle.descends.specs.Descends.{descends}
+use Rattle.load.specs.Load.{load, tableAfter, workAfter}
+use Rattle.renumber.specs.Renumber.{image, renumber, RenumberedSheet}
 use Rattle.law_everything.specs.Everything.{everything}
-use Rattle.renumber.specs.Renumber.{image, renumber}
-use Rattle.law_renumbering.specs.Statement.{Call, isAccepted, answers, accepts, leaves, Renumbered, Agree}
-use Rattle.law_renumbering.specs.Accepting.{accepted-long}
-use Rattle.law_renumbering.specs.Theorem.{renumbered}
+use Rattle.calls.specs.Calls.{Loads, Asks, NotShort, Begins, AgreeAsked, NumberingFree}
+use Rattle.calls.specs.CallLaws.{numbering-free}
 
--- 0 and 2 have no fields, and 0 is below 2; 1 is no struct
+-- ── two sheets ──
+
+abbrev child : ℕ → TypeDef
+child p = struct (record { name = 0; parent+ = p; fields = []; methods = [] })
+
+abbrev handler : ℕ → ℕ → Handler
+handler s e = record { start = s; end = e; target = 0; catch = 0 }
+
+abbrev retVoid : Inst
+retVoid = record { low = 1; high = 0 }
+
+-- three dyn registers, nine handlers over seven instructions
+abbrev guarded : Func
+guarded =
+    record {
+      sig = 4;
+      regs = dyn ∷ dyn ∷ dyn ∷ [];
+      params = none;
+      shapes = [];
+      captures = [];
+      names = [];
+      typeRefs = [];
+      handlers = handler 2 6 ∷ handler 0 4 ∷ replicate 7 (handler 0 1);
+      tables = [];
+      code = replicate 7 retVoid;
+    }
+
+-- struct 0 is below struct 2, types 1 and 3 are equal, and the function of signature 4 is bound to hook 7
 abbrev family : Module
 family =
     record {
       strings = [] ∷ [];
-      types =
-          struct (record { name = 0; parent+ = 3; fields = []; methods = [] })
-          ∷ coroutine
-          ∷ struct (record { name = 0; parent+ = 0; fields = []; methods = [] })
-          ∷ [];
+      types = child 3 ∷ coroutine ∷ child 0 ∷ coroutine ∷ func (record { params = dyn ∷ dyn ∷ dyn ∷ []; results = [] }) ∷ [];
       consts = [];
       imports = [];
       globals = [];
-      funcs = [];
-      hooks = [];
+      funcs = guarded ∷ [];
+      hooks = record { hook = 7; kind = 0; index = 0 } ∷ [];
       start+ = 0;
       exports = [];
     }
 
 abbrev turn : List ℕ
-turn = 1 ∷ 2 ∷ 0 ∷ []
+turn = 1 ∷ 2 ∷ 0 ∷ 4 ∷ 3 ∷ []
 
 abbrev sheet : List ℕ
 sheet = sheetOf family
@@ -42,31 +71,78 @@ sheet = sheetOf family
 abbrev turned : List ℕ
 turned = sheetOf (renumber turn family)
 
-pair : Renumbered turn sheet turned
+pair : RenumberedSheet turn sheet turned
 unfolding everything
-pair = record { source = family; renumbering = tt; decodes = refl; decodesAlso = refl }
+pair = record { source = family; bytes = refl; intact = refl; renumbers = tt; written = refl }
+
+-- ── two calls ──
 
 abbrev slice : List ℕ
-slice = replicate 400 7
+slice = replicate 1000 7
 
-abbrev first : Call
-first = record { sheet = sheet; table = slice; work = slice }
+abbrev answer : List ℕ → Loaded
+answer s = load s (hostsOf []) 1000 1000
 
-abbrev second : Call
-second = record { sheet = turned; table = slice; work = slice }
+-- the table that a call leaves
+abbrev left : List ℕ → List ℕ
+left s = tableAfter s (hostsOf []) slice slice
 
--- all by computing
-computed : T (accepts (hostsOf []) first) × T (accepts (hostsOf []) second) × (descends (leaves (hostsOf []) first) 0 2 ≡ 1)
-unfolding everything isAccepted answers accepts leaves
-computed = (tt, tt, refl)
+calling : (s : List ℕ) → Loads s (hostsOf []) slice slice (answer s) (left s) (workAfter s (hostsOf []) slice slice)
+calling s = record { answers = refl; leaves = refl; clears = refl }
 
-agreed : Agree turn family (leaves (hostsOf []) first) (leaves (hostsOf []) second)
-unfolding pair
+-- the words of the table
+abbrev words : List ℕ → ℕ
+words s = getD (numbers (answer s)) 2 0
+
+accepted : (answer sheet ≡ Accepted (words sheet)) × (answer turned ≡ Accepted (words turned))
+unfolding everything
+accepted = (refl, refl)
+
+not-short : (s : List ℕ) → answer s ≡ Accepted (words s) → NotShort (answer s)
+unfolding NotShort
+not-short s e q = let z : _≡_ {A = ℕ} 0 1 = cc in omega arith
+
+-- what the theorem gives
+agreed : AgreeAsked turn family (left sheet) (left turned)
+unfolding NumberingFree Begins pair
 agreed =
-    renumbered turn (hostsOf []) first second pair (accepted-long (hostsOf []) first (computed .0)) (accepted-long (hostsOf []) second (computed .1))
-    .agree (computed .0)
+    numbering-free turn (hostsOf []) sheet turned pair
+    slice slice (answer sheet) (left sheet) (workAfter sheet (hostsOf []) slice slice) (calling sheet) (not-short sheet (accepted .0))
+    slice slice (answer turned) (left turned) (workAfter turned (hostsOf []) slice slice) (calling turned)
+    (not-short turned (accepted .1)) .agree (words sheet) (words turned) (accepted .0) (accepted .1) (left sheet) (left turned) refl refl
+
+-- ── carried over ──
+
+-- the catch table and the hooks of the first table
+abbrev caught : List ℕ
+caught = 1 ∷ 7 ∷ 1 ∷ 1 ∷ 0 ∷ 0 ∷ 0 ∷ 0 ∷ noHandler ∷ []
+
+abbrev bound : List ℕ
+bound = 31 ∷ replicate 7 0 ++ (1 ∷ replicate 23 0)
+
+-- of the first table by computing
+first-table : (descends (left sheet) 0 2 ≡ 1) × (canonIn (left sheet) 1 ≡ canonIn (left sheet) 3)
+    × (hooksIn (left sheet) ≡ bound) × (catchIn (left sheet) 0 ≡ caught)
+unfolding everything sectionFrom counted afterCounted hooksIn canonIn toCatch catchFirst afterCatch afterFuncs catchIn
+first-table = (refl, refl, refl, refl)
+
+ask : (s : List ℕ) (t a : ℕ) → Asks (left s) t a (descends (left s) t a)
+ask s t a = record { answers = refl }
 
 -- 0 is below 2, and so are their images
-below : descends (leaves (hostsOf []) second) 1 0 ≡ 1
+pub below : descends (left turned) 1 0 ≡ 1
 unfolding image
-below = sym (agreed .families 0 2) ∙ computed .2
+below =
+    sym (agreed .families 0 2 (descends (left sheet) 0 2) (descends (left turned) 1 0) (ask sheet 0 2) (ask turned 1 0))
+    ∙ first-table .0
+
+-- 1 and 3 are equal, and so are theirs
+pub equal : canonIn (left turned) 2 ≡ canonIn (left turned) 4
+unfolding image
+equal = (agreed .canonical 1 3 (omega arith) (omega arith)) .0 (first-table .1)
+
+pub hooked : hooksIn (left turned) ≡ bound
+hooked = sym (agreed .hooks) ∙ first-table .2
+
+pub guards : catchIn (left turned) 0 ≡ caught
+guards = sym (agreed .catches 0 (omega arith)) ∙ first-table .3

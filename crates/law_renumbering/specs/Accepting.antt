@@ -10,7 +10,7 @@ use lib.Dec.{T}
 use lib.ListN.{length, drop}
 use Rattle.error.specs.declared.LoadError.{LoadError}
 use Rattle.error.specs.declared.Loaded.{Loaded}
-use Rattle.error.specs.Answer.{first}
+use Rattle.error.specs.Answer.{isAccepted, first}
 use Rattle.lists.specs.ListLaws.{T-true}
 use Rattle.sheet.specs.Module.{Module}
 use Rattle.sheet.specs.Decode.{decode}
@@ -29,7 +29,7 @@ use Rattle.law_linked.specs.Answers.{answered}
 use Rattle.law_linked.specs.Find.{hooksIn, canonIn, catchIn}
 use Rattle.law_linked.specs.Found.{hooks-found, canon-found, catch-found}
 use Rattle.law_renumbering.specs.AllRules.{parents-kept}
-use Rattle.law_renumbering.specs.Statement.{Family, Call, hasRoom, LongEnough, isAccepted, answers, accepts, leaves}
+use Rattle.law_renumbering.specs.Statement.{Family, Call, hasRoom, LongEnough, answers, accepts, leaves}
 use Rattle.load.specs.LoadLaws.{opening-decoded}
 use Rattle.load.specs.KindLaws.{short-slice}
 
@@ -105,16 +105,15 @@ cond-zero : (b : Bool) → (T b → ⊥) → _≡_ {A = ℕ} (cond b 1 0) 0
 cond-zero true n = absurd (n tt)
 cond-zero false n = refl
 
-pub family-left : (hosts : List ℕ) (c : Call) (m : Module) → decode (c .sheet) ≡ some m → T (accepts hosts c) → Family m (leaves hosts c)
-family-left hosts c m intact h =
-    let o = accepted-opening hosts c m intact h in
-    let rest = drop (length (tableWords mostOnChain (o .hostList) m)) (c .table) in
+-- on the linked table of an accepted module, whatever follows it
+pub family-front : (hs : List HostFn) (m : Module) → moduleFaults mostOnChain hs m ≡ [] → length (m .types) ≤ noPre → (rest : List ℕ) →
+    Family m (tableWords mostOnChain hs m ++ rest)
+family-front hs m faultless few rest =
+    let left = tableWords mostOnChain hs m ++ rest in
     let one : 1 ≤ mostOnChain = omega arith in
-    let kept = parents-kept mostOnChain (o .hostList) m (o .kept) in
-    let few : length (m .types) ≤ noPre = omega (arith, decoded-few (c .sheet) m intact) in
+    let kept = parents-kept mostOnChain hs m faultless in
     let spans : ℕ → ℕ → Bool = descendsBySpan mostOnChain (m .types) in
-    let at : (t a : ℕ) → descends (leaves hosts c) t a ≡ cond (spans t a) 1 0 =
-    λ t a. ap (λ (ws : List ℕ). descends ws t a) (o .left) ∙ answered mostOnChain (o .hostList) m rest kept one few t a in
+    let at : (t a : ℕ) → descends left t a ≡ cond (spans t a) 1 0 = answered mostOnChain hs m rest kept one few in
     let f = families mostOnChain one m kept in
     record {
       yes = λ t a. (
@@ -124,6 +123,16 @@ family-left hosts c m intact h =
       no = λ t a n. at t a ∙ cond-zero (spans t a) (λ b. let k = (f t a) .0 b in n (record { below = k .0; above = k .1; reaches = k .2 }));
     }
 
+-- an intact sheet has fewer types than a span can number
+pub types-few : (sheet : List ℕ) (m : Module) → decode sheet ≡ some m → length (m .types) ≤ noPre
+types-few sheet m intact = omega (arith, decoded-few sheet m intact)
+
+pub family-left : (hosts : List ℕ) (c : Call) (m : Module) → decode (c .sheet) ≡ some m → T (accepts hosts c) → Family m (leaves hosts c)
+family-left hosts c m intact h =
+    let o = accepted-opening hosts c m intact h in
+    let rest = drop (length (tableWords mostOnChain (o .hostList) m)) (c .table) in
+    subst (Family m) (sym (o .left)) (family-front (o .hostList) m (o .kept) (types-few (c .sheet) m intact) rest)
+
 -- ── what is found in what load left ──
 
 -- the words that are read as hooks, canonical numbers and catch tables are those
@@ -132,12 +141,14 @@ pub record Holds (m : Module) (table : List ℕ) : Type 0 where
   pub canonical : (t : ℕ) → t < length (m .types) → canonIn table t ≡ canonType (m .types) t
   pub catches : (f : ℕ) → f < length (m .funcs) → catchIn table f ≡ catchTable (funcAt m f)
 
+pub holds-front : (hs : List HostFn) (m : Module) (rest : List ℕ) → Holds m (tableWords mostOnChain hs m ++ rest)
+holds-front hs m rest = record {
+  hooks = hooks-found mostOnChain hs m rest;
+  canonical = canon-found mostOnChain hs m rest;
+  catches = catch-found mostOnChain hs m rest;
+}
+
 pub holds-left : (hosts : List ℕ) (c : Call) (m : Module) → decode (c .sheet) ≡ some m → T (accepts hosts c) → Holds m (leaves hosts c)
 holds-left hosts c m intact h =
     let o = accepted-opening hosts c m intact h in
-    let rest = drop (length (tableWords mostOnChain (o .hostList) m)) (c .table) in
-    rw (o .left) (record {
-      hooks = hooks-found mostOnChain (o .hostList) m rest;
-      canonical = canon-found mostOnChain (o .hostList) m rest;
-      catches = catch-found mostOnChain (o .hostList) m rest;
-    })
+    subst (Holds m) (sym (o .left)) (holds-front (o .hostList) m (drop (length (tableWords mostOnChain (o .hostList) m)) (c .table)))

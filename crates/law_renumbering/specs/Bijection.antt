@@ -10,7 +10,7 @@ use native.Mathlib.Decide.{ℕ-discrete, decLt}
 use lib.Dec.{T, eqb, ltb, eqb→eq, eqb-refl, ltb→lt}
 use borrow.Author.Tests.{lt-ltb, le-ltb}
 use lib.ListN.{length, getD, length-map, List·getD-eq-default}
-use Rattle.lists.specs.Lists.{all, contains, distinct, from}
+use Rattle.lists.specs.Lists.{allOf, contains, distinct, from}
 use Rattle.lists.specs.ListLaws.{T-true, length-from, getD-other}
 use Rattle.law_counting.specs.Counting.{tick, count, sum, place, tick-is, tick-not, place-in, getD-place, length-by-counts}
 use Rattle.law_counting.specs.Places.{map-from-at}
@@ -66,9 +66,9 @@ place-getD (x ∷ l) u (suc i) d h =
     go true e z ih = absurd (omega (arith, member-count l i d (omega arith), ap (λ (k : ℕ). count k l) (e tt)))
     go false e z ih = ap suc ih
 
-all-below : (n : ℕ) (l : List ℕ) → T (all (λ i. ltb i n) l) → (y : ℕ) → 1 ≤ count y l → y < n
+all-below : (n : ℕ) (l : List ℕ) → T (allOf (λ i. ltb i n) l) → (y : ℕ) → 1 ≤ count y l → y < n
 all-below n [] h y k = absurd (omega arith)
-all-below n (x ∷ l) h y k = let p = (and-T (ltb x n) (all (λ i. ltb i n) l)) .0 h in go (ℕ-discrete y x) (ltb→lt x n (p .0)) (all-below n l (p .1) y)
+all-below n (x ∷ l) h y k = let p = (and-T (ltb x n) (allOf (λ i. ltb i n) l)) .0 h in go (ℕ-discrete y x) (ltb→lt x n (p .0)) (all-below n l (p .1) y)
   where
     go : Dec (y ≡ x) → x < n → (1 ≤ count y l → y < n) → y < n
     go (yes e) a ih = omega arith
@@ -98,8 +98,8 @@ pub record Listed (n : ℕ) (r : List ℕ) : Type 0 where
 pub listed : (n : ℕ) (r : List ℕ) → T (isRenumbering n r) → Listed n r
 unfolding isRenumbering
 listed n r h =
-    let p = (and-T (eqb (length r) n && all (λ i. ltb i n) r) (distinct r)) .0 h in
-    let q = (and-T (eqb (length r) n) (all (λ i. ltb i n) r)) .0 (p .0) in
+    let p = (and-T (eqb (length r) n && allOf (λ i. ltb i n) r) (distinct r)) .0 h in
+    let q = (and-T (eqb (length r) n) (allOf (λ i. ltb i n) r)) .0 (p .0) in
     record { size = eqb→eq (length r) n (q .0); inside = all-below n r (q .1); unique = p .1 }
 
 -- the number with image t, and t where there is none

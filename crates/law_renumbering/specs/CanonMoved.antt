@@ -6,7 +6,7 @@ use mathlib.Core.List.{List, [], _∷_, map}
 use Prim.Native.Nat.{ℕ}
 use lib.Dec.{eqb, eqb→eq}
 use lib.ListN.{length}
-use Rattle.lists.specs.Lists.{all, isFront}
+use Rattle.lists.specs.Lists.{allOf, isFront}
 use Rattle.lists.specs.ListLaws.{and-first, and-second, all-from}
 use Rattle.law_counting.specs.Counting.{bool-ext, eqb-of}
 use Rattle.sheet.specs.Module.{ValueType, basic, ref, valueWord, TypeDef, coroutine, isStruct, typeAt}
@@ -31,8 +31,8 @@ module _ {types types′ : List TypeDef} {π ρ : ℕ → ℕ} (w : Moved types 
   pub struct-moved : (t : ℕ) → isStruct (typeAt types′ (π t)) ≡ isStruct (typeAt types t)
   struct-moved t = ap isStruct (w .at t) ∙ is-struct-image π (typeAt types t)
 
-  module _ (good : all codedType types ≡ true) where
-    pub good-moved : all codedType types′ ≡ true
+  module _ (good : allOf codedType types ≡ true) where
+    pub good-moved : allOf codedType types′ ≡ true
     unfolding typeAt
     good-moved = all-from codedType types′ coroutine (λ t l. ap codedType (at-origin t) ∙ good-type π (typeAt types (ρ t)) ∙ good-at types good (ρ t))
 
@@ -70,14 +70,14 @@ module _ {types types′ : List TypeDef} {π ρ : ℕ → ℕ} (w : Moved types 
         ref-ref (canonType types′ (π t)) (canonType types′ (π u)) ∙ eqb-canon t u ∙ sym (ref-ref (canonType types t) (canonType types u))
 
     -- the value types of one list as the first of another, compared canonically
-    pub words-front : (ps rs : List ValueType) → all codedValue ps ≡ true → all codedValue rs ≡ true →
+    pub words-front : (ps rs : List ValueType) → allOf codedValue ps ≡ true → allOf codedValue rs ≡ true →
         isFront (map (canonWord types′) (map (valueImage π) ps)) (map (canonWord types′) (map (valueImage π) rs)) ≡
         isFront (map (canonWord types) ps) (map (canonWord types) rs)
     words-front [] rs g h = refl
     words-front (p ∷ ps) [] g h = refl
     words-front (p ∷ ps) (r ∷ rs) g h =
-        let a = all codedValue ps in
-        let b = all codedValue rs in
+        let a = allOf codedValue ps in
+        let b = allOf codedValue rs in
         rw (
           canon-word p r (and-first (codedValue p) a g) (and-first (codedValue r) b h),
           words-front ps rs (and-second (codedValue p) a g) (and-second (codedValue r) b h),

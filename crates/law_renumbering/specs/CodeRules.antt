@@ -6,7 +6,7 @@ use mathlib.Core.List
 use Prim.Native.Nat.{ℕ, _+_, _-_, _<_, zero, suc}
 use lib.Dec.{eqb, leb, ltb}
 use lib.ListN.{length, getD, length-map, List·getD-map}
-use Rattle.lists.specs.Lists.{any}
+use Rattle.lists.specs.Lists.{anyOf}
 use Rattle.lists.specs.ListLaws.{map-at}
 use Rattle.law_faults.specs.Empty.{append-empty, range-empty}
 use Rattle.law_faults.specs.Together.{Together, _⊕_, same-together, both-empty, together-then, together-map, together-unless, together-range, together-each-from, together-all, together-all-from}
@@ -18,7 +18,7 @@ use Rattle.sheet.specs.Module.{basic, isDyn, kindWord, Import, Handler, Switch,
 use Rattle.imports.specs.Params.{sigParams}
 use Rattle.code.specs.declared.FieldKind.{FieldKind}
 use Rattle.code.specs.Callee.{noFunc, noImport, funcAt, importAt, noCaptures}
-use Rattle.code.specs.Opcodes.{Rule, free, noPromote, promoteToDyn, tailCall, tailCallIndirect, call, callIndirect, callImport, callShape, makeClosure, ofKind, concatenate, slice, notToRef, catchable, wideBits, Row, rows, row, step}
+use Rattle.code.specs.Opcodes.{Rule, free, noPromote, promoteToDyn, tailCall, tailCallIndirect, call, callIndirect, callImport, callShape, makeClosure, ofKind, concatenate, notToRef, catchable, wideBits, Row, rows, row, step}
 use Rattle.code.specs.Code.{isDynRegister, goodHandler, handlerFaults, tableFaults, covers, fieldFaults, fieldsFaults, windowFaults, arityFaults, directFaults, promote, hasKind, ruleFaults, instFaults, placedFaults, lastPosition, lastFaults, codeFaults, codesFaults}
 use Rattle.renumber.specs.Renumber.{image, valueImage, funcImage, importImage, typesImage, renumber}
 use Rattle.law_renumbering.specs.Bijection.{Listed}
@@ -41,7 +41,7 @@ Tied callShape b w = Unit {0}
 Tied makeClosure b w = w ≡ FieldKind.Func
 Tied (ofKind k) b w = b ≡ FieldKind.TypeRef
 Tied concatenate b w = Unit {0}
-Tied slice b w = Unit {0}
+Tied Rule.slice b w = Unit {0}
 Tied notToRef b w = Unit {0}
 Tied catchable b w = Unit {0}
 Tied wideBits b w = Unit {0}
@@ -228,7 +228,7 @@ module _ (r : List ℕ) (m : Module) (l : Listed (length (m .types)) r) where
     rule-together c i (ofKind k) b w q x y =
         together-unless (WrongTypeKind k) (WrongTypeKind k) (ap (λ (n : ℕ). eqb n (typeKindWord k)) (kind-ref (slotB i) (ref-range b (slotB i) q x)))
     rule-together c i concatenate b w q x y = window-together (image r) f (slotB i) (slotD i) (slotD i) refl
-    rule-together c i slice b w q x y = window-together (image r) f (slotC i) 2 2 refl
+    rule-together c i Rule.slice b w q x y = window-together (image r) f (slotC i) 2 2 refl
     rule-together c i notToRef b w q x y = same-together refl
     rule-together c i catchable b w q x y = same-together refl
     rule-together c i wideBits b w q x y = same-together refl
@@ -237,7 +237,7 @@ module _ (r : List ℕ) (m : Module) (l : Listed (length (m .types)) r) where
     unfolding instFaults TiedRow funcImage
     inst-together pc i = together-then (fields-together (row (opcode i)) i) (λ e.
         let k = fields-kept (row (opcode i)) i e in
-        rule-together (any (covers pc) (f .handlers)) i (row (opcode i) .rule) (row (opcode i) .B) (row (opcode i) .W) (row-tied (opcode i)) (k .0) (k .1))
+        rule-together (anyOf (covers pc) (f .handlers)) i (row (opcode i) .rule) (row (opcode i) .B) (row (opcode i) .W) (row-tied (opcode i)) (k .0) (k .1))
 
     code-together : (n : ℕ) → Together (codeFaults m n f) (codeFaults (renumber r m) n (funcImage (image r) f))
     unfolding codeFaults placedFaults funcImage

@@ -7,11 +7,10 @@ use native.Mathlib.Omega.{arith}
 use lib.Dec.{T}
 use Rattle.sheet.specs.Module.{TypeDef}
 use Rattle.parents.specs.Forest.{Entry, other, root, sub, entryAt}
-use Rattle.spans.specs.Spans.{Reaches, here, up}
+use Rattle.spans.specs.Spans.{Reaches, here, up, Descendant}
 use Rattle.law_renumbering.specs.Images.{rename}
 use Rattle.law_renumbering.specs.CanonMoved.{Moved, struct-moved}
 use Rattle.law_renumbering.specs.Setting.{entry-moved}
-use Rattle.law_renumbering.specs.Statement.{Descendant}
 
 module _ {types types′ : List TypeDef} {π ρ : ℕ → ℕ} (w : Moved types types′ π ρ) where
   reaches-there : {t a : ℕ} → Reaches types t a → Reaches types′ (π t) (π a)

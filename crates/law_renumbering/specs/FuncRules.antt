@@ -5,7 +5,7 @@ use mathlib.Core.List.{List, map}
 use Prim.Native.Nat.{ℕ}
 use lib.Dec.{leb}
 use lib.ListN.{length, length-map}
-use Rattle.lists.specs.Lists.{all, isFront}
+use Rattle.lists.specs.Lists.{allOf, isFront}
 use Rattle.lists.specs.ListLaws.{and-first}
 use Rattle.law_faults.specs.Together.{Together, _⊕_, same-together, together-map, together-unless, together-each, together-all, together-good-from}
 use Rattle.error.specs.declared.What.the-variants.{Registers}
@@ -29,11 +29,11 @@ use Rattle.law_renumbering.specs.TypeRules.{values-together, string-toge
 use Rattle.law_renumbering.specs.ImportRules.{signature-together, param-list-together}
 
 module _ (r : List ℕ) (m : Module) (l : Listed (length (m .types)) r) (good : Coded m) where
-  params-good : (s : ℕ) → all codedValue (sigParams m s) ≡ true
+  params-good : (s : ℕ) → allOf codedValue (sigParams m s) ≡ true
   unfolding sigParams
   params-good s = good-sig (image r) (typeAt (m .types) s) (good-at (m .types) (good .types) s)
 
-  params-first : (s : ℕ) (rs : List ValueType) → all codedValue rs ≡ true →
+  params-first : (s : ℕ) (rs : List ValueType) → allOf codedValue rs ≡ true →
       paramsFirst m (sigParams m s) rs ≡ paramsFirst (renumber r m) (sigParams (renumber r m) (image r s)) (map (valueImage (image r)) rs)
   unfolding paramsFirst renumber
   params-first s rs g = sym (
@@ -51,9 +51,9 @@ module _ (r : List ℕ) (m : Module) (l : Listed (length (m .types)) r) (good : 
   func-together : (f : Func) → codedFunc f ≡ true → Together (funcFaults m f) (funcFaults (renumber r m) (funcImage (image r) f))
   unfolding funcFaults funcImage codedFunc
   func-together f g =
-      let regs = all codedValue (f .regs) in
-      let captures = all codedValue (f .captures) in
-      let good-regs : regs ≡ true = and-first regs captures (and-first (regs && captures) (all codedInst (f .code)) g) in
+      let regs = allOf codedValue (f .regs) in
+      let captures = allOf codedValue (f .captures) in
+      let good-regs : regs ≡ true = and-first regs captures (and-first (regs && captures) (allOf codedInst (f .code)) g) in
       signature-together r m l (f .sig)
       ⊕ values-together r m l (f .regs)
       ⊕ together-unless (OutOfRange Registers (length (f .regs))) (OutOfRange Registers (length (map (valueImage (image r)) (f .regs))))

@@ -5,7 +5,7 @@ use mathlib.Core.List.{List, [], _∷_, map}
 use Prim.Native.Nat.{ℕ, zero, suc, _<_}
 use lib.Dec.{eqb, ltb}
 use lib.ListN.{length, getD, length-map}
-use Rattle.lists.specs.Lists.{all}
+use Rattle.lists.specs.Lists.{allOf}
 use Rattle.law_faults.specs.Empty.{append-empty, range-empty}
 use Rattle.law_faults.specs.Together.{Together, both-empty, together-then, together-map, together-unless, together-range, together-each, together-all}
 use Rattle.error.specs.declared.What.the-variants.{Types, Functions, Imports, Globals}
@@ -25,7 +25,7 @@ use Rattle.law_renumbering.specs.CodeRules.{func-known, import-known, fu
 
 -- ── hooks ──
 
-all-dyn-image : (π : ℕ → ℕ) (vs : List ValueType) → all isDyn (map (valueImage π) vs) ≡ all isDyn vs
+all-dyn-image : (π : ℕ → ℕ) (vs : List ValueType) → allOf isDyn (map (valueImage π) vs) ≡ allOf isDyn vs
 all-dyn-image π [] = refl
 all-dyn-image π (v ∷ vs) = ap₂ (λ (a b : Bool). a && b) (dyn-image π v) (all-dyn-image π vs)
 

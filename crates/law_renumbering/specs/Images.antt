@@ -7,7 +7,7 @@ use Prim.Native.Nat.{ℕ, zero, suc, _+_}
 use native.Mathlib.Omega.{arith}
 use lib.Dec.{T, eqb, ltb, eqb→eq}
 use borrow.Author.Tests.{ltb-true, ne-eqb}
-use Rattle.lists.specs.Lists.{all, concatMap, isFront}
+use Rattle.lists.specs.Lists.{allOf, concatMap, isFront}
 use Rattle.lists.specs.ListLaws.{T-true, T-of, and-first, and-second}
 use Rattle.lists.specs.AllLaws.{all-map}
 use Rattle.law_counting.specs.Counting.{bool-ext, eqb-of}
@@ -85,10 +85,10 @@ module _ (π : ℕ → ℕ) where
   good-value (basic k) = refl
   good-value (ref t) = refl
 
-  pub good-values : (vs : List ValueType) → all codedValue (map (valueImage π) vs) ≡ all codedValue vs
+  pub good-values : (vs : List ValueType) → allOf codedValue (map (valueImage π) vs) ≡ allOf codedValue vs
   good-values vs = all-map codedValue codedValue (valueImage π) good-value vs
 
-  good-fields : (fs : List Field) → all codedField (map (fieldImage π) fs) ≡ all codedField fs
+  good-fields : (fs : List Field) → allOf codedField (map (fieldImage π) fs) ≡ allOf codedField fs
   unfolding fieldImage codedField
   good-fields fs = all-map codedField codedField (fieldImage π) (λ f. good-value (f .type)) fs
 
@@ -170,9 +170,9 @@ module _ (π : ℕ → ℕ) where
   dyn-image (basic k) = refl
   dyn-image (ref t) = refl
 
-  pub good-sig : (d : TypeDef) → codedType d ≡ true → all codedValue (sigOf d .params) ≡ true
+  pub good-sig : (d : TypeDef) → codedType d ≡ true → allOf codedValue (sigOf d .params) ≡ true
   unfolding sigOf noSig codedType
-  good-sig (func s) g = and-first (all codedValue (s .params)) (all codedValue (s .results)) g
+  good-sig (func s) g = and-first (allOf codedValue (s .params)) (allOf codedValue (s .results)) g
   good-sig (struct s) g = refl
   good-sig (TypeDef.array v) g = refl
   good-sig (TypeDef.map k v) g = refl
@@ -209,15 +209,15 @@ module _ (π ρ : ℕ → ℕ) (back : (t : ℕ) → ρ (π t) ≡ t) where
   value-word-image (ref t) (ref u) g h = ref-ref (π t) (π u) ∙ eqb-image π ρ back t u ∙ sym (ref-ref t u)
 
   -- the fields of one as the first of another
-  pub fields-front : (fs gs : List Field) → all codedField fs ≡ true → all codedField gs ≡ true →
+  pub fields-front : (fs gs : List Field) → allOf codedField fs ≡ true → allOf codedField gs ≡ true →
       isFront (concatMap encodeField (map (fieldImage π) fs)) (concatMap encodeField (map (fieldImage π) gs)) ≡
       isFront (concatMap encodeField fs) (concatMap encodeField gs)
   unfolding encodeField encodeValue fieldImage codedField
   fields-front [] gs g h = refl
   fields-front (f ∷ fs) [] g h = refl
   fields-front (f ∷ fs) (e ∷ gs) g h =
-      let a = all codedField fs in
-      let b = all codedField gs in
+      let a = allOf codedField fs in
+      let b = allOf codedField gs in
       rw (
         value-word-image (f .type) (e .type) (and-first (codedField f) a g) (and-first (codedField e) b h),
         fields-front fs gs (and-second (codedField f) a g) (and-second (codedField e) b h),

@@ -5,7 +5,7 @@ use mathlib.Core.List.{List, [], _∷_, _++_}
 use Prim.Native.Nat.{ℕ, _≤_}
 use native.Mathlib.Omega.{arith}
 use lib.ListN.{length}
-use Rattle.lists.specs.Lists.{all}
+use Rattle.lists.specs.Lists.{allOf}
 use Rattle.law_faults.specs.Empty.{append-empty}
 use Rattle.error.specs.declared.LoadErrorKind.{LoadErrorKind}
 use Rattle.error.specs.declared.LoadErrorKind.the-variants.{MissedStruct}
@@ -35,7 +35,7 @@ record Leads (es : List LoadError) : Type 0 where
   lead : (l : ℕ) (e : LoadError) → first l es ≡ Refused e → judged (e .kind) ≡ true
 
 -- a list whose faults are all of these kinds
-leads-all : (es : List LoadError) → all (λ e. judged (e .kind)) es ≡ true → Leads es
+leads-all : (es : List LoadError) → allOf (λ e. judged (e .kind)) es ≡ true → Leads es
 leads-all es h = record { lead = λ l e q. first-passes (λ e. judged (e .kind)) l es e h q }
 
 -- the second part counts only where the first is empty

@@ -6,7 +6,7 @@ use mathlib.Core.Option.{some}
 use Prim.Native.Nat.{ℕ, _+_}
 use lib.Dec.{T}
 use lib.ListN.{length}
-use Rattle.lists.specs.Lists.{all}
+use Rattle.lists.specs.Lists.{allOf}
 use Rattle.blocks.specs.Blocks.{words, lengthWord}
 use Rattle.blocks.specs.ByteLaws.{isByte}
 use Rattle.sheet.specs.Module.{Module}
@@ -14,8 +14,8 @@ use Rattle.sheet.specs.Decode.{decode}
 use Rattle.sheet.specs.Encode.{sheetOf}
 use Rattle.sheet.specs.SheetLaws.{decode-is-sheet, decode-coded, decode-length, sheet-length}
 use Rattle.load.specs.Load.{longEnough}
-use Rattle.renumber.specs.Renumber.{isRenumbering, renumber, sheetAgain, renumberSheet}
-use Rattle.law_renumbering.specs.Statement.{Call, LongEnough, hasRoom, Renumbered, RenumberedSheet, Outcome}
+use Rattle.renumber.specs.Renumber.{renumber, RenumberedSheet}
+use Rattle.law_renumbering.specs.Statement.{Call, LongEnough, hasRoom, Renumbered, Outcome}
 use Rattle.law_renumbering.specs.Theorem.{renumbered}
 use Rattle.law_renumbering.specs.Written.{renumbered-size, renumbered-coded, renumbered-decodes}
 
@@ -28,7 +28,7 @@ module _ {r first second : List ℕ} where
     decodesAlso = ap decode (w .written) ∙ renumbered-decodes r first (w .source) (w .bytes) (w .intact) (w .renumbers);
   }
 
-  pub as-written : all isByte first ≡ true → all isByte second ≡ true → Renumbered r first second → RenumberedSheet r first second
+  pub as-written : allOf isByte first ≡ true → allOf isByte second ≡ true → Renumbered r first second → RenumberedSheet r first second
   as-written b c w = record {
     source = w .source;
     bytes = b;
@@ -36,11 +36,6 @@ module _ {r first second : List ℕ} where
     renumbers = w .renumbering;
     written = decode-is-sheet second (renumber r (w .source)) c (w .decodesAlso);
   }
-
-  -- it is what `renumberSheet` gives
-  pub renumberSheet-is : RenumberedSheet r first second → renumberSheet r first ≡ some second
-  unfolding renumberSheet sheetAgain
-  renumberSheet-is w = ap (sheetAgain r) (w .intact) ∙ ap some (sym (w .written))
 
   -- N is the same
   pub words-same : RenumberedSheet r first second → lengthWord (words second) ≡ lengthWord (words first)

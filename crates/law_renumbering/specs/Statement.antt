@@ -1,34 +1,26 @@
--- The statement: two intact sheets that differ by one renumbering of the types, load accepts both or refuses both, and what it leaves agrees.
+-- Inner words of demand 3, over the definitions alone; what is claimed is said of calls (calls/specs/Calls).
+-- Two intact sheets that differ by one renumbering of the types, load accepts both or refuses both, and what it leaves agrees.
 use mathlib.Core.Path.{_≡_}
 use mathlib.Core.Logic.{_↔_}
-use mathlib.Core.Bool.{Bool, true, false}
+use mathlib.Core.Bool.{Bool}
 use mathlib.Core.List.{List}
 use mathlib.Core.Option.{some}
-use Rattle.lists.specs.Lists.{all}
-use Rattle.blocks.specs.ByteLaws.{isByte}
 use Prim.Native.Nat.{ℕ, _<_}
 use lib.Dec.{T}
 use lib.ListN.{length}
 use Rattle.error.specs.declared.LoadErrorKind.the-variants.{ShortSlice}
-use Rattle.error.specs.Answer.{inModule}
+use Rattle.error.specs.Answer.{inModule, isAccepted}
 use Rattle.error.specs.declared.Loaded.{Loaded}
-use Rattle.error.specs.declared.Loaded.the-variants.{Accepted, Refused}
-use Rattle.sheet.specs.Module.{TypeDef, Module, typeAt, isStruct}
+use Rattle.error.specs.declared.Loaded.the-variants.{Refused}
+use Rattle.sheet.specs.Module.{Module}
 use Rattle.sheet.specs.Decode.{decode}
-use Rattle.sheet.specs.Encode.{sheetOf}
-use Rattle.spans.specs.Spans.{Reaches}
+use Rattle.spans.specs.Spans.{Descendant}
 use Rattle.descends.specs.Descends.{descends}
 use Rattle.load.specs.Load.{longEnough, load, tableAfter}
 use Rattle.law_linked.specs.Find.{hooksIn, canonIn, catchIn}
 use Rattle.renumber.specs.Renumber.{isRenumbering, image, renumber}
 
 -- ── what the query is to say ──
-
--- t and a are structs, and t is a or declared parents lead from t to a
-pub record Descendant (types : List TypeDef) (t a : ℕ) : Type 0 where
-  pub below : T (isStruct (typeAt types t))
-  pub above : T (isStruct (typeAt types a))
-  pub reaches : Reaches types t a
 
 -- yes, 1, just where t is a descendant of a; else no, 0; never 25
 pub record Family (m : Module) (table : List ℕ) : Type 0 where
@@ -55,10 +47,6 @@ hasRoom c = longEnough (c .sheet) (length (c .table)) (length (c .work))
 unfoldable pub LongEnough : List ℕ → Call → Type 0
 LongEnough hosts c = answers hosts c ≡ Refused (inModule ShortSlice) → ⊥
 
-unfoldable pub isAccepted : Loaded → Bool
-isAccepted (Accepted l) = true
-isAccepted (Refused e) = false
-
 unfoldable pub accepts : List ℕ → Call → Bool
 accepts hosts c = isAccepted (answers hosts c)
 
@@ -74,14 +62,6 @@ pub record Renumbered (r first second : List ℕ) : Type 0 where
   pub renumbering : T (isRenumbering (length (source .types)) r)
   pub decodes : decode first ≡ some source
   pub decodesAlso : decode second ≡ some (renumber r source)
-
--- the same of bytes: the second sheet is the written sheet of the first one's module, renumbered; check words are made to fit
-pub record RenumberedSheet (r first second : List ℕ) : Type 0 where
-  pub source : Module
-  pub bytes : all isByte first ≡ true
-  pub intact : decode first ≡ some source
-  pub renumbers : T (isRenumbering (length (source .types)) r)
-  pub written : second ≡ sheetOf (renumber r source)
 
 -- what two tables, as load left them, have in common
 pub record Agree (r : List ℕ) (m : Module) (left leftAlso : List ℕ) : Type 0 where

@@ -1,7 +1,7 @@
 -- The theorem on two sheets that differ by one renumbering.
 use mathlib.Core.Path.{_≡_, refl, sym, ap, _∙_}
 use mathlib.Core.Logic.{_↔_}
-use mathlib.Core.List.{List}
+use mathlib.Core.List.{List, [], _++_}
 use Prim.Native.Nat.{ℕ, _<_}
 use native.Mathlib.Omega.{arith}
 use native.Mathlib.Decide.{ℕ-discrete}
@@ -12,9 +12,10 @@ use Rattle.sheet.specs.Module.{Func, Module}
 use Rattle.host.specs.Host.{HostFn}
 use Rattle.canon.specs.Canon.{canonType}
 use Rattle.parents.specs.Parents.{mostOnChain}
+use Rattle.spans.specs.Spans.{Descendant}
 use Rattle.code.specs.Callee.{funcAt}
 use Rattle.table.specs.Records.{catchTable}
-use Rattle.table.specs.Table.{hookSection}
+use Rattle.table.specs.Table.{hookSection, tableWords}
 use Rattle.descends.specs.Descends.{descends}
 use Rattle.load.specs.Load.{moduleFaults}
 use Rattle.law_faults.specs.Together.{Together}
@@ -27,8 +28,8 @@ use Rattle.law_renumbering.specs.Setting.{moved}
 use Rattle.law_renumbering.specs.CodeRules.{func-known}
 use Rattle.law_renumbering.specs.AllRules.{rules-together}
 use Rattle.law_renumbering.specs.FamilyMoved.{descendant-moved}
-use Rattle.law_renumbering.specs.Accepting.{accepted-opening, opening-accepted, family-left, Holds, holds-left}
-use Rattle.law_renumbering.specs.Statement.{Descendant, Family, Call, LongEnough, accepts, leaves, Renumbered, Agree, Outcome}
+use Rattle.law_renumbering.specs.Accepting.{accepted-opening, opening-accepted, family-front, types-few, family-left, Holds, holds-front, holds-left}
+use Rattle.law_renumbering.specs.Statement.{Family, Call, LongEnough, accepts, leaves, Renumbered, Agree, Outcome}
 
 catch-image : (π : ℕ → ℕ) (f : Func) → catchTable (funcImage π f) ≡ catchTable f
 unfolding catchTable funcImage
@@ -81,6 +82,18 @@ module _ (r : List ℕ) (m : Module) (l : Listed (length (m .types)) r) (left le
         λ e. h .canonical t b ∙ c .1 (sym (canon-at t b) ∙ e ∙ canon-at u d) ∙ sym (h .canonical u d),
       )
 
+-- two tables of which each says of its module what a table left by load does
+pub agree-of : (r : List ℕ) (m : Module) → Listed (length (m .types)) r → Coded m → (left leftAlso : List ℕ) →
+    Family m left → Family (renumber r m) leftAlso → Holds m left → Holds (renumber r m) leftAlso → Agree r m left leftAlso
+agree-of r m l good left leftAlso f g h k = record {
+  families = families-same r m l left leftAlso f g;
+  family = f;
+  familyAlso = g;
+  canonical = canon-same r m l left leftAlso h k good;
+  hooks = hooks-same r m l left leftAlso h k;
+  catches = catches-same r m l left leftAlso h k;
+}
+
 module _ (r hosts : List ℕ) (first second : Call) (w : Renumbered r (first .sheet) (second .sheet)) where
   places : Listed (length (w .source .types)) r
   places = listed (length (w .source .types)) r (w .renumbering)
@@ -94,20 +107,9 @@ module _ (r hosts : List ℕ) (first second : Call) (w : Renumbered r (first .sh
   agree-left : T (accepts hosts first) → T (accepts hosts second) → Agree r (w .source) (leaves hosts first) (leaves hosts second)
   agree-left a b =
       let m = w .source in
-      let f = family-left hosts first m (w .decodes) a in
-      let g = family-left hosts second (renumber r m) (w .decodesAlso) b in
-      let h = holds-left hosts first m (w .decodes) a in
-      let k = holds-left hosts second (renumber r m) (w .decodesAlso) b in
-      let this = leaves hosts first in
-      let that = leaves hosts second in
-      record {
-        families = families-same r m places this that f g;
-        family = f;
-        familyAlso = g;
-        canonical = canon-same r m places this that h k good;
-        hooks = hooks-same r m places this that h k;
-        catches = catches-same r m places this that h k;
-      }
+      agree-of r m places good (leaves hosts first) (leaves hosts second)
+      (family-left hosts first m (w .decodes) a) (family-left hosts second (renumber r m) (w .decodesAlso) b)
+      (holds-left hosts first m (w .decodes) a) (holds-left hosts second (renumber r m) (w .decodesAlso) b)
 
   accepted-there : LongEnough hosts second → T (accepts hosts first) → T (accepts hosts second)
   accepted-there room h =
@@ -126,3 +128,15 @@ renumbered r hosts first second w room roomAlso = record {
   together = bool-ext (accepts hosts first) (accepts hosts second) (accepted-there r hosts first second w roomAlso) (accepted-back r hosts first second w room);
   agree = λ h. agree-left r hosts first second w h (accepted-there r hosts first second w roomAlso h);
 }
+
+-- and so do any words that begin with the linked tables of the two modules
+pub agree-fronts : (r first second : List ℕ) (w : Renumbered r first second) (hs : List HostFn) →
+    moduleFaults mostOnChain hs (w .source) ≡ [] → moduleFaults mostOnChain hs (renumber r (w .source)) ≡ [] → (rest restAlso : List ℕ) →
+    Agree r (w .source) (tableWords mostOnChain hs (w .source) ++ rest) (tableWords mostOnChain hs (renumber r (w .source)) ++ restAlso)
+agree-fronts r first second w hs faultless faultlessAlso rest restAlso =
+    let m = w .source in
+    agree-of r m (listed (length (m .types)) r (w .renumbering)) (decoded first m (w .decodes))
+    (tableWords mostOnChain hs m ++ rest) (tableWords mostOnChain hs (renumber r m) ++ restAlso)
+    (family-front hs m faultless (types-few first m (w .decodes)) rest)
+    (family-front hs (renumber r m) faultlessAlso (types-few second (renumber r m) (w .decodesAlso)) restAlso)
+    (holds-front hs m rest) (holds-front hs (renumber r m) restAlso)

@@ -7,7 +7,7 @@ use mathlib.Core.Option.{Option, none, some}
 use Prim.Native.Nat.{ℕ, zero, suc}
 use lib.Dec.{ltb, leb}
 use lib.ListN.{length, take, length-map}
-use Rattle.lists.specs.Lists.{all, concatMap, isFront}
+use Rattle.lists.specs.Lists.{allOf, concatMap, isFront}
 use Rattle.law_faults.specs.Together.{Together, _⊕_, same-together, both-empty, together-map, together-unless, together-range, together-each, together-all}
 use Rattle.error.specs.declared.What.the-variants.{Functions}
 use Rattle.error.specs.declared.LoadErrorKind.the-variants.{BadSignature, BadParent, InheritanceTooDeep}
@@ -89,7 +89,7 @@ module _ (r : List ℕ) (m : Module) (l : Listed (length (m .types)) r) where
 
 abbrev codedStruct : Option Struct → Bool
 codedStruct none = true
-codedStruct (some s) = all codedField (s .fields)
+codedStruct (some s) = allOf codedField (s .fields)
 
 good-struct : (d : TypeDef) → codedType d ≡ true → codedStruct (structOf d) ≡ true
 unfolding codedType structOf
@@ -109,7 +109,7 @@ module _ (π ρ : ℕ → ℕ) (back : (t : ℕ) → ρ (π t) ≡ t) where
   front-option (some s) none g h = fields-front π ρ back (s .fields) [] g refl
   front-option (some s) (some u) g h = fields-front π ρ back (s .fields) (u .fields) g h
 
-module _ {types types′ : List TypeDef} {π ρ : ℕ → ℕ} (w : Moved types types′ π ρ) (good : all codedType types ≡ true) where
+module _ {types types′ : List TypeDef} {π ρ : ℕ → ℕ} (w : Moved types types′ π ρ) (good : allOf codedType types ≡ true) where
   struct-of-moved : (t : ℕ) → structOf (typeAt types′ (π t)) ≡ maybeStruct π (structOf (typeAt types t))
   struct-of-moved t = ap structOf (w .at t) ∙ struct-image π (typeAt types t)
 

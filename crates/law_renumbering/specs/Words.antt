@@ -7,7 +7,7 @@ use native.Mathlib.Omega.{arith}
 use lib.Dec.{eqb}
 use borrow.Author.Tests.{lt-ltb, ltb-true}
 use lib.ListN.{length, length-append, length-map}
-use Rattle.lists.specs.Lists.{all, concatMap}
+use Rattle.lists.specs.Lists.{allOf, concatMap}
 use Rattle.lists.specs.ListLaws.{both, and-first, and-second}
 use Rattle.lists.specs.AllLaws.{all-join}
 use Rattle.blocks.specs.ByteLaws.{isWord}
@@ -22,7 +22,7 @@ use Rattle.renumber.specs.Renumber.{imagePlus, valueImage, fieldImage, structIm
 -- ys are as many as xs; and words if xs are, where the types, n, are no more than a sheet has words
 pub record Kept (n : ℕ) (xs ys : List ℕ) : Type 0 where
   pub size : length ys ≡ length xs
-  pub words : n ≤ mostWords → all isWord xs ≡ true → all isWord ys ≡ true
+  pub words : n ≤ mostWords → allOf isWord xs ≡ true → allOf isWord ys ≡ true
 
 pub self : {n : ℕ} (xs : List ℕ) → Kept n xs xs
 self xs = record { size = refl; words = λ few h. h }
@@ -39,7 +39,7 @@ _⊕_ {n} {xs} {ys} {us} {vs} k l = record {
   size = length-append ys vs ∙ ap₂ _+_ (k .size) (l .size) ∙ sym (length-append xs us);
   words = λ few h.
       let e = sym (all-join isWord xs us) ∙ h in
-      all-join isWord ys vs ∙ both (k .words few (and-first (all isWord xs) (all isWord us) e)) (l .words few (and-second (all isWord xs) (all isWord us) e));
+      all-join isWord ys vs ∙ both (k .words few (and-first (allOf isWord xs) (allOf isWord us) e)) (l .words few (and-second (allOf isWord xs) (allOf isWord us) e));
 }
 
 -- the counts of two lists

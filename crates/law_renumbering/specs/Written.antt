@@ -8,7 +8,7 @@ use native.Mathlib.Omega.{arith}
 use native.Mathlib.Decide.{decLt}
 use lib.Dec.{T, leb}
 use lib.ListN.{length}
-use Rattle.lists.specs.Lists.{all, concatMap, from}
+use Rattle.lists.specs.Lists.{allOf, concatMap, from}
 use Rattle.lists.specs.ListLaws.{both, and-first, and-second, all-at, all-from}
 use Rattle.lists.specs.AllLaws.{all-concatMap, all-map}
 use Rattle.law_counting.specs.Counting.{sum, sum-ext}
@@ -35,7 +35,8 @@ use Rattle.law_renumbering.specs.Words.{Kept, self, word, _⊕_, counted
 
 module _ {types types′ : List TypeDef} {π ρ : ℕ → ℕ} (w : Moved types types′ π ρ) where
   -- all types pass p, and the image of a type that does passes q
-  all-moved : (p q : TypeDef → Bool) → ((d : TypeDef) → p d ≡ true → q (typeImage π d) ≡ true) → all p types ≡ true → all q types′ ≡ true
+  all-moved : (p q : TypeDef → Bool) → ((d : TypeDef) → p d ≡ true → q (typeImage π d) ≡ true)
+      → allOf p types ≡ true → allOf q types′ ≡ true
   unfolding typeAt
   all-moved p q f h = all-from q types′ coroutine λ t k.
       ap q (at-origin w t) ∙ f (typeAt types (ρ t)) (all-at p types (ρ t) coroutine h (origin-below w t (omega (arith, w .size))))
@@ -69,7 +70,7 @@ module _ {types types′ : List TypeDef} {π ρ : ℕ → ℕ} (w : Moved types 
       part = type-kept (length types) π near
 
       wordy : TypeDef → Bool
-      wordy d = all isWord (encodeType d)
+      wordy d = allOf isWord (encodeType d)
 
 -- ── the module ──
 
@@ -89,7 +90,7 @@ module _ (r : List ℕ) (m : Module) (l : Listed (length (m .types)) r) where
       ⊕ self (encodeList encodeHook (m .hooks))
       ⊕ (self (m .start+ ∷ []) ⊕ list-kept encodeExport (exportImage π) (export-kept n π g) (m .exports))
 
-  codes-kept : all codedType (m .types) ≡ true → codedModule (renumber r m) ≡ codedModule m
+  codes-kept : allOf codedType (m .types) ≡ true → codedModule (renumber r m) ≡ codedModule m
   unfolding codedModule renumber codedGlobal codedFunc codedExport globalImage funcImage exportImage
   codes-kept h =
       let π = image r in
@@ -104,7 +105,7 @@ framable-kept : (n : ℕ) (xs ys : List ℕ) → n ≤ mostWords → Kept n xs y
 unfolding framable titled
 framable-kept n xs ys few k h =
     let t : Kept n (titled xs) (titled ys) = self (edition ∷ []) ⊕ word (length xs + 2) (length ys + 2) (λ few h. omega (arith, k .size)) ⊕ k in
-    let a = all isWord (titled xs) in
+    let a = allOf isWord (titled xs) in
     let b = leb (blocksFor (length (titled xs))) mostBlocks in
     both (t .words few (and-first a b h)) (ap (λ i. leb (blocksFor i) mostBlocks) (t .size) ∙ and-second a b h)
 
@@ -123,6 +124,6 @@ renumbered-coded r m h c =
     (framable-kept (length (m .types)) (encode m) (encode (renumber r m)) (decoded-few s m d) (module-kept r m l) (and-second (codedModule m) (framable (encode m)) c))
 
 -- the bytes of the second sheet decode to the renumbered module
-pub renumbered-decodes : (r s : List ℕ) (m : Module) → all isByte s ≡ true → decode s ≡ some m → T (isRenumbering (length (m .types)) r) →
+pub renumbered-decodes : (r s : List ℕ) (m : Module) → allOf isByte s ≡ true → decode s ≡ some m → T (isRenumbering (length (m .types)) r) →
     decode (sheetOf (renumber r m)) ≡ some (renumber r m)
 renumbered-decodes r s m b d h = decode-sheet (renumber r m) (renumbered-coded r m h (decode-coded s m b d))

@@ -1,13 +1,12 @@
 -- The rows tried by hand: what the definitions give, beside what is stated.
-use mathlib.Core.Path.{_≡_, refl}
 use Prim.Native.Nat.{ℕ, _+_, _*_}
 use mathlib.Core.List.{List, [], _∷_, _++_, map}
+use mathlib.Core.Path.{_≡_}
 use mathlib.Core.Bool.{Bool, true}
 use mathlib.Core.Option.{none}
-use lib.ListN.{take, drop, replicate}
-use Rattle.lists.specs.Lists.{all, same, from}
-use Rattle.lists.specs.ListLaws.{all-parts}
-use Rattle.error.specs.Answer.{numbers}
+use lib.ListN.{take, replicate}
+use Rattle.lists.specs.Lists.{allOf, same, from}
+use Rattle.error.specs.Answer.{numbers, refusal}
 use Rattle.sheet.specs.Module.{ValueType, ref, dyn, TypeDef, func, struct, coroutine, Const, Func, Handler, Inst, Hook, Module}
 use Rattle.sheet.specs.Encode.{sheetOf}
 use Rattle.host.specs.Host.{hostsOf}
@@ -16,7 +15,6 @@ use Rattle.table.specs.Records.{catchTable, noHandler}
 use Rattle.table.specs.Table.{canonSection, spanSection, tableWords}
 use Rattle.descends.specs.Descends.{descends}
 use Rattle.load.specs.Load.{load}
-use Rattle.law_everything.specs.Everything.{everything}
 
 -- ── modules ──
 
@@ -46,7 +44,7 @@ child p = struct (record { name = 0; parent+ = p; fields = []; methods = [] })
 abbrev chainOf : ℕ → List TypeDef
 chainOf n = map child (from 0 n)
 
--- n constants of which each holds the one before
+-- a plain constant, then n of which each holds the one before
 abbrev nested : ℕ → List Const
 nested n = Const.plain 0 0 ∷ map (λ k. Const.array (k ∷ [])) (from 0 n)
 
@@ -99,7 +97,7 @@ secondUnsigned = moduleOf (taking [] [] ∷ []) [] (function 0 0 [] [] ∷ funct
 abbrev tailUnderOne : Module
 tailUnderOne = moduleOf (taking [] [] ∷ []) [] (function 0 1 (handler 0 1 ∷ handler 0 2 ∷ []) (retVoid ∷ inst 7 0 0 0 ∷ []) ∷ []) []
 
--- as many words as the longest sheet below needs
+-- more words than any sheet below needs
 abbrev room : ℕ
 room = 100000
 
@@ -114,9 +112,6 @@ spansOf ts = spanSection mostOnChain (ofTypes ts)
 
 abbrev kindOf : Module → List ℕ
 kindOf m = take 1 (answerOf m)
-
-abbrev refusal : ℕ → List ℕ
-refusal k = k ∷ 0 ∷ 0 ∷ 0 ∷ 0 ∷ 0 ∷ []
 
 -- words 1, 11, nine zeros; check 56
 abbrev emptySheet : List ℕ
@@ -137,7 +132,7 @@ passes = 0 ∷ []
 -- ── the rows ──
 
 -- the two long chains are the last
-pub rows : List (List ℕ × List ℕ)
+unfoldable pub rows : List (List ℕ × List ℕ)
 rows =
     (answerTo emptySheet, 0 ∷ 0 ∷ 49 ∷ 0 ∷ 0 ∷ 0 ∷ [])
     ∷ (sheetOf emptyModule, emptySheet)
@@ -165,21 +160,9 @@ rows =
     ∷ (answerOf (ofTypes (chainOf 257)), refusal 17)
     ∷ []
 
-pub holds : List ℕ × List ℕ → Bool
+-- what is given is what is stated
+unfoldable pub holds : List ℕ × List ℕ → Bool
 holds r = same (r .0) (r .1)
 
--- each part by computing: together they are more steps than one theorem may take
-short-rows : all holds (take 22 rows) ≡ true
-unfolding everything rows holds
-short-rows = refl
-
-chain-of-256 : all holds (take 1 (drop 22 rows)) ≡ true
-unfolding everything rows holds
-chain-of-256 = refl
-
-chain-of-257 : all holds (drop 1 (drop 22 rows)) ≡ true
-unfolding everything rows holds
-chain-of-257 = refl
-
-pub rows-hold : all holds rows ≡ true
-rows-hold = all-parts holds 22 rows short-rows (all-parts holds 1 (drop 22 rows) chain-of-256 chain-of-257)
+unfoldable pub RowsHold : Type 0
+RowsHold = allOf holds rows ≡ true

@@ -1,5 +1,6 @@
 // A sheet of the most blocks, 4,096, is intact; the like of one block more is broken.
-ghost use Prim.Native.Nat.{_<_};
+ghost use Prim.Native.Nat.{_≤_, _<_};
+ghost use lib.ListN.{length};
 use libc::STDOUT_FILENO;
 use open_layout::Checked;
 
@@ -32,13 +33,15 @@ fn put(bytes: &mut [u8; 2097664], at: usize, w: usize)
     bytes[at + 2] = (w / 65536 % 256) as u8;
 }
 
-fn report_front(bytes: &[u8], n: usize) {
-    if n <= bytes.len() {
-        report(&bytes[..n]);
-    }
+fn report_front(bytes: &[u8], n: usize)
+    requires { ⌜ n ≤ length (now bytes) ⌝ }
+{
+    report(&bytes[..n]);
 }
 
-fn report_array(bytes: &[u8; 2097664], n: usize) {
+fn report_array(bytes: &[u8; 2097664], n: usize)
+    requires { ⌜ n ≤ 2097664 ⌝ }
+{
     report_front(bytes, n);
 }
 

@@ -9,7 +9,7 @@ use native.Mathlib.Omega.{arith}
 use lib.Dec.{eqb, ltb}
 use lib.ListN.{length}
 use borrow.Author.Tests.{eqb-true}
-use Rattle.lists.specs.Lists.{all, contains}
+use Rattle.lists.specs.Lists.{allOf, contains}
 use Rattle.lists.specs.ListLaws.{and-first}
 use Rattle.error.specs.declared.LoadErrorKind.{LoadErrorKind}
 use Rattle.error.specs.declared.LoadErrorKind.the-variants.{Decode, BadHostList, ShortSlice, NotLinked}
@@ -44,10 +44,10 @@ early-apart k h = go (kindNumber k) (eqb (kindNumber k) 1) (eqb (kindNumber k) 2
     go n false false false p q r h = let z : _≡_ {A = ℕ} 0 1 = cc in absurd (omega arith)
 
 -- a refusal for the first fault passes a test that all faults pass
-pub first-passes : (p : LoadError → Bool) (l : ℕ) (es : List LoadError) (e : LoadError) → all p es ≡ true → first l es ≡ Refused e → p e ≡ true
+pub first-passes : (p : LoadError → Bool) (l : ℕ) (es : List LoadError) (e : LoadError) → allOf p es ≡ true → first l es ≡ Refused e → p e ≡ true
 unfolding first
 first-passes p l [] e h q = let z : _≡_ {A = ℕ} 0 1 = cc in absurd (omega arith)
-first-passes p l (x ∷ es) e h q = let z : x ≡ e = cc in subst (λ (y : LoadError). p y ≡ true) z (and-first (p x) (all p es) h)
+first-passes p l (x ∷ es) e h q = let z : x ≡ e = cc in subst (λ (y : LoadError). p y ≡ true) z (and-first (p x) (allOf p es) h)
 
 -- a refusal of what was opened is one of the rules'
 pub opened-refused : (m : Module) (hs : List HostFn) (e : LoadError) → answer (opened m hs) ≡ Refused e → ofRules (e .kind) ≡ true

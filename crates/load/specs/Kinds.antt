@@ -5,7 +5,7 @@ use mathlib.Core.List.{List, map}
 use mathlib.Core.Bool.{Bool, true, false, _&&_, _||_}
 use lib.Dec.{eqb, ltb}
 use lib.ListN.{getD}
-use Rattle.lists.specs.Lists.{all}
+use Rattle.lists.specs.Lists.{allOf}
 use Rattle.lists.specs.AllLaws.{all-join, all-map, all-each, all-each-from}
 use Rattle.error.specs.declared.LoadErrorKind.{LoadErrorKind}
 use Rattle.error.specs.declared.LoadError.{LoadError}
@@ -26,12 +26,12 @@ ofRules k = judged k || eqb (kindNumber k) 26
 -- ── a list of faults, by its parts ──
 
 -- a rule's kind passes, so what comes of the rule does
-pub all-unless : (p : LoadErrorKind → Bool) (b : Bool) (k : LoadErrorKind) → p k ≡ true → all p (unless b k) ≡ true
+pub all-unless : (p : LoadErrorKind → Bool) (b : Bool) (k : LoadErrorKind) → p k ≡ true → allOf p (unless b k) ≡ true
 all-unless p true k h = refl
 all-unless p false k h = rw h
 
 -- a place keeps the kind
-pub all-placed : (f : LoadErrorKind → LoadError) → ((k : LoadErrorKind) → f k .kind ≡ k) → (ks : List LoadErrorKind) → all (λ e. judged (e .kind)) (map f ks) ≡ all judged ks
+pub all-placed : (f : LoadErrorKind → LoadError) → ((k : LoadErrorKind) → f k .kind ≡ k) → (ks : List LoadErrorKind) → allOf (λ e. judged (e .kind)) (map f ks) ≡ allOf judged ks
 all-placed f h ks = all-map (λ e. judged (e .kind)) judged f (λ k. ap judged (h k)) ks
 
 -- a list of faults is `++`, `concatMap`, `map` and `unless`

@@ -6,7 +6,7 @@ use mathlib.Core.Bool.{Bool, true, false, cond}
 use mathlib.Core.Option.{none, some}
 use lib.Dec.{eqb}
 use lib.ListN.{length, getD}
-use Rattle.lists.specs.Lists.{all, concatMapFrom}
+use Rattle.lists.specs.Lists.{allOf, concatMapFrom}
 use Rattle.lists.specs.ListLaws.{all-imp}
 use Rattle.lists.specs.AllLaws.{all-join, all-map}
 use Rattle.error.specs.declared.What.the-variants.{Types, Functions, Globals}
@@ -32,24 +32,24 @@ use Rattle.load.specs.CodeKinds.{codes-kinds}
 
 -- ── rule 2: types ──
 
-value-kinds : (m : Module) (v : ValueType) → all judged (valueFaults m v) ≡ true
+value-kinds : (m : Module) (v : ValueType) → allOf judged (valueFaults m v) ≡ true
 unfolding valueFaults judged kindNumber kindNumbers
 value-kinds m (basic k) = refl
 value-kinds m (ref t) = simp parts
 
-string-kinds : (m : Module) (s : ℕ) → all judged (stringFaults m s) ≡ true
+string-kinds : (m : Module) (s : ℕ) → allOf judged (stringFaults m s) ≡ true
 unfolding stringFaults judged kindNumber kindNumbers
 string-kinds m s = simp parts
 
-struct-kinds : (m : Module) (s : Struct) → all judged (structFaults m s) ≡ true
+struct-kinds : (m : Module) (s : Struct) → allOf judged (structFaults m s) ≡ true
 unfolding structFaults methodFaults functionFaults judged kindNumber kindNumbers
 struct-kinds m s = simp (parts, value-kinds, string-kinds)
 
-sig-kinds : (m : Module) (s : Sig) → all judged (sigFaults m s) ≡ true
+sig-kinds : (m : Module) (s : Sig) → allOf judged (sigFaults m s) ≡ true
 unfolding sigFaults judged kindNumber kindNumbers
 sig-kinds m s = simp (parts, value-kinds)
 
-type-kinds : (m : Module) (d : TypeDef) → all judged (typeFaults m d) ≡ true
+type-kinds : (m : Module) (d : TypeDef) → allOf judged (typeFaults m d) ≡ true
 unfolding typeFaults
 type-kinds m (func s) = sig-kinds m s
 type-kinds m (struct s) = struct-kinds m s
@@ -59,124 +59,124 @@ type-kinds m (cell v) = value-kinds m v
 type-kinds m (iter k v) = simp (parts, value-kinds)
 type-kinds m coroutine = refl
 
-pub types-kinds : (m : Module) → all (λ e. judged (e .kind)) (typesFaults m) ≡ true
+pub types-kinds : (m : Module) → allOf (λ e. judged (e .kind)) (typesFaults m) ≡ true
 unfolding typesFaults
 types-kinds m = simp (parts, type-kinds)
 
 -- ── rules 3 and 4: parents, constants ──
 
-parent-kinds : (most : ℕ) (types : List TypeDef) (t : ℕ) (e : Entry) → all judged (parentFaults most types t e) ≡ true
+parent-kinds : (most : ℕ) (types : List TypeDef) (t : ℕ) (e : Entry) → allOf judged (parentFaults most types t e) ≡ true
 unfolding parentFaults childFaults judged kindNumber kindNumbers
 parent-kinds most types t other = refl
 parent-kinds most types t root = refl
 parent-kinds most types t (sub p) = simp parts
 
-pub parents-kinds : (most : ℕ) (m : Module) → all (λ e. judged (e .kind)) (parentsFaults most m) ≡ true
+pub parents-kinds : (most : ℕ) (m : Module) → allOf (λ e. judged (e .kind)) (parentsFaults most m) ≡ true
 unfolding parentsFaults
 parents-kinds most m = simp (parts, parent-kinds)
 
-const-kinds : (most : ℕ) (m : Module) (ds : List ℕ) (i : ℕ) (k : Const) → all judged (constFaults most m ds i k) ≡ true
+const-kinds : (most : ℕ) (m : Module) (ds : List ℕ) (i : ℕ) (k : Const) → allOf judged (constFaults most m ds i k) ≡ true
 unfolding constFaults judged kindNumber kindNumbers
 const-kinds most m ds i k = simp (parts, string k)
   where
-    string : (k : Const) → all judged (stringConstFaults m k) ≡ true
+    string : (k : Const) → allOf judged (stringConstFaults m k) ≡ true
     string (plain l h) = unfold stringConstFaults in refl
     string (Const.string s) = unfold stringConstFaults in simp parts
     string (Const.array items) = unfold stringConstFaults in refl
     string (Const.map entries) = unfold stringConstFaults in refl
 
-pub consts-kinds : (most : ℕ) (m : Module) → all (λ e. judged (e .kind)) (constsFaults most m) ≡ true
+pub consts-kinds : (most : ℕ) (m : Module) → allOf (λ e. judged (e .kind)) (constsFaults most m) ≡ true
 unfolding constsFaults
 consts-kinds most m = simp (parts, const-kinds)
 
 -- ── rule 5: imports and globals ──
 
-signature-kinds : (m : Module) (t : ℕ) → all judged (signatureFaults m t) ≡ true
+signature-kinds : (m : Module) (t : ℕ) → allOf judged (signatureFaults m t) ≡ true
 unfolding signatureFaults judged kindNumber kindNumbers
 signature-kinds m t = simp parts
 
-params-kinds : (m : Module) (ps : ParamList) (vs : List ValueType) → all judged (paramListFaults m ps vs) ≡ true
+params-kinds : (m : Module) (ps : ParamList) (vs : List ValueType) → allOf judged (paramListFaults m ps vs) ≡ true
 unfolding paramListFaults judged kindNumber kindNumbers
 params-kinds m none vs = refl
 params-kinds m (some ps) vs = simp parts
 
-import-kinds : (hosts : List HostFn) (m : Module) (i : Import) → all judged (importFaults hosts m i) ≡ true
+import-kinds : (hosts : List HostFn) (m : Module) (i : Import) → allOf judged (importFaults hosts m i) ≡ true
 unfolding importFaults judged kindNumber kindNumbers
 import-kinds hosts m i = simp (parts, signature-kinds, params-kinds)
 
-pub imports-kinds : (hosts : List HostFn) (m : Module) → all (λ e. judged (e .kind)) (importsFaults hosts m) ≡ true
+pub imports-kinds : (hosts : List HostFn) (m : Module) → allOf (λ e. judged (e .kind)) (importsFaults hosts m) ≡ true
 unfolding importsFaults
 imports-kinds hosts m = simp (parts, import-kinds)
 
-init-kinds : (m : Module) (k : ℕ) → all judged (initFaults m k) ≡ true
+init-kinds : (m : Module) (k : ℕ) → allOf judged (initFaults m k) ≡ true
 unfolding initFaults judged kindNumber kindNumbers
 init-kinds m zero = refl
 init-kinds m (suc k) = simp parts
 
-pub globals-kinds : (m : Module) → all (λ e. judged (e .kind)) (globalsFaults m) ≡ true
+pub globals-kinds : (m : Module) → allOf (λ e. judged (e .kind)) (globalsFaults m) ≡ true
 unfolding globalsFaults globalFaults
 globals-kinds m = simp (parts, value-kinds, init-kinds)
 
 -- ── rule 6: functions ──
 
-func-kinds : (m : Module) (f : Func) → all judged (funcFaults m f) ≡ true
+func-kinds : (m : Module) (f : Func) → allOf judged (funcFaults m f) ≡ true
 unfolding funcFaults shapeFaults typeRefFaults judged kindNumber kindNumbers
 func-kinds m f = simp (parts, signature-kinds, value-kinds, params-kinds, string-kinds)
 
-pub funcs-kinds : (m : Module) → all (λ e. judged (e .kind)) (funcsFaults m) ≡ true
+pub funcs-kinds : (m : Module) → allOf (λ e. judged (e .kind)) (funcsFaults m) ≡ true
 unfolding funcsFaults
 funcs-kinds m = simp (parts, func-kinds)
 
 -- ── rule 8: hooks, start, exports ──
 
-hook-kinds : (m : Module) (b : Hook) → all judged (hookFaults m b) ≡ true
+hook-kinds : (m : Module) (b : Hook) → allOf judged (hookFaults m b) ≡ true
 unfolding hookFaults hookFunctionFaults hookImportFaults judged kindNumber kindNumbers
 hook-kinds m b = go (eqb (b .kind) 0)
   where
-    go : (c : Bool) → all judged (cond c (hookFunctionFaults m (b .hook) (b .index)) (hookImportFaults m (b .hook) (b .index))) ≡ true
+    go : (c : Bool) → allOf judged (cond c (hookFunctionFaults m (b .hook) (b .index)) (hookImportFaults m (b .hook) (b .index))) ≡ true
     go true = simp parts
     go false = simp parts
 
-pub hooks-kinds : (m : Module) → all (λ e. judged (e .kind)) (hooksFaults m) ≡ true
+pub hooks-kinds : (m : Module) → allOf (λ e. judged (e .kind)) (hooksFaults m) ≡ true
 unfolding hooksFaults
 hooks-kinds m = simp (parts, hook-kinds)
 
-start-at-kinds : (m : Module) (f : ℕ) → all judged (startAtFaults m f) ≡ true
+start-at-kinds : (m : Module) (f : ℕ) → allOf judged (startAtFaults m f) ≡ true
 unfolding startAtFaults judged kindNumber kindNumbers
 start-at-kinds m zero = refl
 start-at-kinds m (suc f) = simp parts
 
-pub start-kinds : (m : Module) → all (λ e. judged (e .kind)) (startFaults m) ≡ true
+pub start-kinds : (m : Module) → allOf (λ e. judged (e .kind)) (startFaults m) ≡ true
 unfolding startFaults
 start-kinds m = simp (parts, start-at-kinds)
 
-export-kinds : (m : Module) (e : Export) → all judged (exportFaults m e) ≡ true
+export-kinds : (m : Module) (e : Export) → allOf judged (exportFaults m e) ≡ true
 unfolding exportFaults judged kindNumber kindNumbers
 export-kinds m e = go (e .kind)
   where
-    go : (k : ℕ) → all judged (getD (inRange Functions (length (m .funcs)) (e .index) ∷ inRange Globals (length (m .globals)) (e .index) ∷ inRange Types (length (m .types)) (e .index) ∷ []) k []) ≡ true
+    go : (k : ℕ) → allOf judged (getD (inRange Functions (length (m .funcs)) (e .index) ∷ inRange Globals (length (m .globals)) (e .index) ∷ inRange Types (length (m .types)) (e .index) ∷ []) k []) ≡ true
     go zero = simp parts
     go (suc zero) = simp parts
     go (suc (suc zero)) = simp parts
     go (suc (suc (suc k))) = refl
 
-pub exports-kinds : (m : Module) → all (λ e. judged (e .kind)) (exportsFaults m) ≡ true
+pub exports-kinds : (m : Module) → allOf (λ e. judged (e .kind)) (exportsFaults m) ≡ true
 unfolding exportsFaults
 exports-kinds m = simp (parts, export-kinds)
 
 -- ── all rules ──
 
 -- the walk gives 26 only
-pub walk-kinds : (most : ℕ) (m : Module) → all (λ e. ofRules (e .kind)) (walkFaults most m) ≡ true
+pub walk-kinds : (most : ℕ) (m : Module) → allOf (λ e. ofRules (e .kind)) (walkFaults most m) ≡ true
 unfolding walkFaults missedFaults ofRules judged kindNumber kindNumbers
 walk-kinds most m = all-map (λ e. ofRules (e .kind)) ofRules inModule (λ k. refl) (concatMapFrom 0 (missedFaults (order most (m .types))) (m .types)) ∙ simp parts
 
 -- 2 to 22 are kinds of the rules
-judged-of : (es : List LoadError) → all (λ e. judged (e .kind)) es ≡ true → all (λ e. ofRules (e .kind)) es ≡ true
+judged-of : (es : List LoadError) → allOf (λ e. judged (e .kind)) es ≡ true → allOf (λ e. ofRules (e .kind)) es ≡ true
 unfolding ofRules
 judged-of es h = all-imp (λ e. judged (e .kind)) (λ e. ofRules (e .kind)) (λ e k. rw k) es h
 
 -- every fault that the rules find is of one of their kinds
-pub rules-kinds : (most : ℕ) (hosts : List HostFn) (m : Module) → all (λ e. ofRules (e .kind)) (moduleFaults most hosts m) ≡ true
+pub rules-kinds : (most : ℕ) (hosts : List HostFn) (m : Module) → allOf (λ e. ofRules (e .kind)) (moduleFaults most hosts m) ≡ true
 unfolding moduleFaults
 rules-kinds most hosts m = simp (all-join, walk-kinds, judged-of, types-kinds, parents-kinds, consts-kinds, imports-kinds, globals-kinds, funcs-kinds, codes-kinds, hooks-kinds, start-kinds, exports-kinds)

@@ -7,7 +7,7 @@ use mathlib.Core.Option.{some}
 use native.Mathlib.Omega.{arith}
 use lib.ListN.{length, take, drop, replicate, length-append, length-drop}
 use lib.Seq.{take-at, drop-at}
-use Rattle.lists.specs.Lists.{all}
+use Rattle.lists.specs.Lists.{allOf}
 use Rattle.blocks.specs.ByteLaws.{isByte}
 use Rattle.error.specs.declared.LoadError.{LoadError}
 use Rattle.error.specs.declared.Loaded.{Loaded}
@@ -78,7 +78,7 @@ module _ (sheet hosts table work : List ℕ) where
       (rw (over l k) (written-over (tableWords mostOnChain (k .hostList) (k .source)) table l (k .words))))
 
   -- the table keeps its length: of a sheet in bytes, the linked table fits
-  pub table-length : all isByte sheet ≡ true → length (tableAfter sheet hosts table work) ≡ length table
+  pub table-length : allOf isByte sheet ≡ true → length (tableAfter sheet hosts table work) ≡ length table
   unfolding tableAfter
   table-length h = go (opening sheet hosts (length table) (length work)) refl
     where

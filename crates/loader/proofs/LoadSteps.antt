@@ -5,7 +5,7 @@ use mathlib.Core.List.{List}
 use mathlib.Core.Bool.{true}
 use native.Mathlib.Omega.{arith}
 use lib.ListN.{length}
-use Rattle.lists.specs.Lists.{all}
+use Rattle.lists.specs.Lists.{allOf}
 use Rattle.blocks.specs.ByteLaws.{isByte}
 use Rattle.blocks.specs.Frame.{firstWords}
 use Rattle.error.specs.declared.LoadErrorKind.{LoadErrorKind}
@@ -36,7 +36,7 @@ use Rattle.load_intact.specs.Linking.{Fits, answered, tableLeft}
 -- ── what is asked where the inputs are not refused ──
 
 -- room for the linked table, of a sheet in bytes
-fits : (sheet hosts : List ℕ) (work : ℕ) (l : Layout) (n : ℕ) (table : List ℕ) → all isByte sheet ≡ true → Admitted sheet hosts (length table) work l n
+fits : (sheet hosts : List ℕ) (work : ℕ) (l : Layout) (n : ℕ) (table : List ℕ) → allOf isByte sheet ≡ true → Admitted sheet hosts (length table) work l n
     → Fits (hostsIn (firstWords hosts n)) (moduleIn (firstWords sheet (l .words))) table
 fits sheet hosts work l n table h a =
     let m = moduleIn (firstWords sheet (l .words)) in
@@ -54,7 +54,7 @@ fits sheet hosts work l n table h a =
     }
 
 pub load-asked : (sheet hosts table v : List ℕ) (work : ℕ) (l : Layout) (n : ℕ) {i : Inputs} → i ≡ Inputs.Intact l n → i ≡ inputsOf (checkedOf (layout sheet)) (listedOf hosts) (length table) work → IndexedIf i hosts v →
-    all isByte sheet ≡ true →
+    allOf isByte sheet ≡ true →
     Located (firstWords sheet (l .words)) (moduleIn (firstWords sheet (l .words))) l × ((l .words ≤ 520192) × ((64 + 8 * l .words ≤ work) × (SortedHosts (firstWords hosts n) v × Fits (hostsIn (firstWords hosts n)) (moduleIn (firstWords sheet (l .words))) table)))
 load-asked sheet hosts table v work l n h e x b =
     let a = inputs-intact sheet hosts (length table) work e l n h in

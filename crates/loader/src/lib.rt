@@ -6,16 +6,11 @@ ghost use Rattle.blocks.specs.Blocks.{words};
 ghost use Rattle.open_hosts.specs.Sorted.{Roomy};
 ghost use Rattle.load.specs.Load.{load, tableAfter, workAfter};
 use blocks::word;
-use error::Judged;
 use error::Loaded;
 use load_intact::load_intact;
 use open_inputs::Inputs;
 use open_inputs::check_inputs;
 use open_inputs::refuse;
-use open_layout::Layout;
-use open_sheet::Opened;
-use open_sheet::open_sheet;
-use region::fill;
 
 // As load, with words for the index of the host list.
 fn load_with(
@@ -77,7 +72,7 @@ fn with_most(
     load_with(sheet, hosts, table, work, index)
 }
 
-// It could call itself, so the compiler keeps its large frame out of its caller's: a short list takes little stack.
+// It could call itself, so the compiler does not inline it: its large frame is on the stack only where it runs, and a short list takes little.
 fn load_most(sheet: &[u8], hosts: &[u8], table: &mut [u32], work: &mut [u32], left: usize) -> Loaded
     ensures { λ r. ⌜ r ≡ load (now (sheet .entry)) (now (hosts .entry)) (length (now (table .entry))) (length (now (work .entry))) ⌝ }
     ensures { λ r. ⌜ now (table .exit) ≡ tableAfter (now (sheet .entry)) (now (hosts .entry)) (now (table .entry)) (now (work .entry)) ⌝ }

@@ -7,7 +7,7 @@ use native.Mathlib.Omega.{arith}
 use native.Mathlib.Numerals.{add-one}
 use lib.ListN.{length, getD, length-map}
 use lib.Seq.{ext-getD}
-use Rattle.lists.specs.Lists.{all, from, firstAt, same}
+use Rattle.lists.specs.Lists.{allOf, from, firstAt, same}
 use Rattle.lists.specs.ListLaws.{all-at, map-agree}
 use Rattle.lists.specs.FirstLaws.{first-map, first-agree}
 use Rattle.blocks.specs.ByteLaws.{isWord}
@@ -103,7 +103,7 @@ module _ (ws : List ℕ) (m : Module) (l : Layout) (x : Located ws m l) where
       (l .types) (m .types) (edgesOf Types ws (l .types)) (types-indexed ws m l x)
       (unfold edgesOf memberOf in list-begins typeDef ws (l .types) (m .types) (l .consts) (x .types))
 
-  module _ (w : all isWord ws ≡ true) where
+  module _ (w : allOf isWord ws ≡ true) where
     -- THE STRINGS' NUMBERS OVER THE INDEX ARE RULE 1'S
     pub strings-numbered : canonical (ownBy false) (items ws (edgesOf Strings ws (l .strings)) (length (m .strings))) ≡ map (canonString (m .strings)) (from 0 (length (m .strings)))
     strings-numbered =
@@ -113,7 +113,7 @@ module _ (ws : List ℕ) (m : Module) (l : Layout) (x : Located ws m l) where
         first-agree (λ y. same (encodeString (getD (m .strings) i [])) (encodeString y)) (same (getD (m .strings) i [])) [] (m .strings) λ j k.
         string-same (getD (m .strings) i []) (getD (m .strings) j []) (all-at wellFormed (m .strings) i [] good h) (all-at wellFormed (m .strings) j [] good k)
       where
-        good : all wellFormed (m .strings) ≡ true
+        good : allOf wellFormed (m .strings) ≡ true
         good = list-codes ws string encodeString wellFormed (string-codes ws w) .found (l .strings) (m .strings) (l .types) (x .strings) .fine
 
     pub strings-rising : Rising ws (edgesOf Strings ws (l .strings)) (length (m .strings))

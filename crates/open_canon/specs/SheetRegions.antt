@@ -7,7 +7,7 @@ use native.Mathlib.Omega.{arith}
 use native.Mathlib.Nat.{zero-add}
 use lib.ListN.{length, getD, length-append, List·getD-append}
 use lib.Seq.{paste}
-use Rattle.lists.specs.Lists.{all, from}
+use Rattle.lists.specs.Lists.{allOf, from}
 use Rattle.lists.specs.ListLaws.{getD-map-from}
 use Rattle.blocks.specs.ByteLaws.{isWord}
 use Rattle.sheet.specs.Module.{Module}
@@ -95,10 +95,10 @@ module _ (ws : List ℕ) (m : Module) (l : Layout) (x : Located ws m l) where
         (t : ℕ) → t < length (m .types) → getD v (c + t) 0 ≡ canonType (m .types) t
     type-number e r t h = region-at (canonType (m .types)) v c (length (m .types)) t (types-written e r) h
 
-    pub strings-written : all isWord ws ≡ true → part s (length (m .strings) + 1) w ≡ edgesOf Strings ws (l .strings) → Numbered ws w v (length (m .strings)) s a b c false →
+    pub strings-written : allOf isWord ws ≡ true → part s (length (m .strings) + 1) w ≡ edgesOf Strings ws (l .strings) → Numbered ws w v (length (m .strings)) s a b c false →
         part c (length (m .strings)) v ≡ map (canonString (m .strings)) (from 0 (length (m .strings)))
     strings-written k e r = r .numbers ∙ ap (λ es. canonical (ownBy false) (items ws es (length (m .strings)))) e ∙ strings-numbered ws m l x k
 
-    pub string-number : all isWord ws ≡ true → part s (length (m .strings) + 1) w ≡ edgesOf Strings ws (l .strings) → Numbered ws w v (length (m .strings)) s a b c false →
+    pub string-number : allOf isWord ws ≡ true → part s (length (m .strings) + 1) w ≡ edgesOf Strings ws (l .strings) → Numbered ws w v (length (m .strings)) s a b c false →
         (t : ℕ) → t < length (m .strings) → getD v (c + t) 0 ≡ canonString (m .strings) t
     string-number k e r t h = region-at (canonString (m .strings)) v c (length (m .strings)) t (strings-written k e r) h

@@ -3,7 +3,7 @@ ghost use mathlib.Core.Path.{_≡_};
 ghost use Rattle.blocks.specs.Frame.{firstWords};
 ghost use Rattle.reader.specs.Reader.{word, many, listOf};
 ghost use Rattle.reader.specs.Step.{stepOf};
-ghost use Rattle.sheet.specs.Decode.{argOf, switchOf, instOf, functionOf};
+ghost use Rattle.sheet.specs.Decode.{switchOf, instOf, functionOf};
 ghost use Rattle.open_funcs.specs.Halves.{frameHalf, bodyOf, codeHalf};
 use blocks::word;
 use open_parts::imports::skip_params;

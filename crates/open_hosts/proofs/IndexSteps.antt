@@ -9,7 +9,7 @@ use native.Mathlib.Numerals.{add-one}
 use native.Mathlib.Decide.{decLt}
 use lib.ListN.{length, getD, set, take, length-set}
 use lib.Seq.{getD-set-same, getD-set-other}
-use Rattle.lists.specs.Lists.{all, concatMap}
+use Rattle.lists.specs.Lists.{allOf, concatMap}
 use Rattle.blocks.specs.Blocks.{words}
 use Rattle.blocks.specs.ByteLaws.{isByte, isWord}
 use Rattle.blocks.specs.Frame.{firstWords}
@@ -39,7 +39,7 @@ count-read b n h k e = k ∙ e ∙ sym (firstWords-at b n 2 (list-within hostFn 
 unfoldable pub edgeAt : List ℕ → ℕ → ℕ
 edgeAt ws i = 3 + length (concatMap encodeHost (take i (hostsIn ws)))
 
-edge-entry : (ws : List ℕ) (i : ℕ) → Whole (listOf hostFn ws 2) → all isWord ws ≡ true → i < entryCount ws → hostFn ws (edgeAt ws i) ≡ got (entryOf ws i) (edgeAt ws (i + 1))
+edge-entry : (ws : List ℕ) (i : ℕ) → Whole (listOf hostFn ws 2) → allOf isWord ws ≡ true → i < entryCount ws → hostFn ws (edgeAt ws i) ≡ got (entryOf ws i) (edgeAt ws (i + 1))
 unfolding edgeAt
 edge-entry ws i w small h =
     whole-inv (listOf hostFn ws 2) w λ hs q e.
@@ -50,7 +50,7 @@ module _ (b : List ℕ) (n : ℕ) (w₀ : List ℕ) (count : ℕ) where
   -- i edges are written, and entry i stands at p
   pub record Edging (w : List ℕ) (i p : ℕ) : Type 0 where
     pub whole : Whole (listOf hostFn (firstWords b n) 2)
-    pub small : all isWord (firstWords b n) ≡ true
+    pub small : allOf isWord (firstWords b n) ≡ true
     pub room : 3 * count + 1 ≤ length w
     pub len : length w ≡ length w₀
     pub counts : count ≡ entryCount (firstWords b n)
@@ -59,7 +59,7 @@ module _ (b : List ℕ) (n : ℕ) (w₀ : List ℕ) (count : ℕ) where
     pub inside : p ≤ n
     pub done : (j : ℕ) → j < i → getD w j 0 ≡ edgeAt (firstWords b n) j
 
-  pub edging-start : Whole (listOf hostFn (firstWords b n) 2) → all isByte b ≡ true → count ≡ entryCount (firstWords b n) → 3 * entryCount (firstWords b n) + 1 ≤ length w₀ → Edging w₀ 0 3
+  pub edging-start : Whole (listOf hostFn (firstWords b n) 2) → allOf isByte b ≡ true → count ≡ entryCount (firstWords b n) → 3 * entryCount (firstWords b n) + 1 ≤ length w₀ → Edging w₀ 0 3
   unfolding edgeAt
   edging-start h s k r = record {
     whole = h;

@@ -7,7 +7,7 @@ use mathlib.Core.Option.{none, some}
 use native.Mathlib.Omega.{arith}
 use lib.ListN.{length}
 use borrow.Author.Tests.{eq-eqb, ne-eqb}
-use Rattle.lists.specs.Lists.{all}
+use Rattle.lists.specs.Lists.{allOf}
 use Rattle.blocks.specs.Blocks.{words, lengthWord, framed}
 use Rattle.blocks.specs.ByteLaws.{isByte}
 use Rattle.blocks.specs.Frame.{frameOf, firstWords}
@@ -95,7 +95,7 @@ unfolding Roomy
 roomy b n k count w c h r = omega (arith, firstWords-at b n 2 (list-within hostFn b n 2 w))
 
 -- of more entries two are the pair of empty strings
-pub crowded : (b : List ℕ) (n count : ℕ) → Whole (listOf hostFn (firstWords b n) 2) → all isByte b ≡ true → n ≤ 520192 → count ≡ entryCount (firstWords b n) → 130047 < count → false ≡ pairsDistinct (hostsIn (firstWords b n))
+pub crowded : (b : List ℕ) (n count : ℕ) → Whole (listOf hostFn (firstWords b n) 2) → allOf isByte b ≡ true → n ≤ 520192 → count ≡ entryCount (firstWords b n) → 130047 < count → false ≡ pairsDistinct (hostsIn (firstWords b n))
 crowded b n count w s h c l = go (pairsDistinct (hostsIn (firstWords b n))) refl
   where
     go : (x : Bool) → pairsDistinct (hostsIn (firstWords b n)) ≡ x → false ≡ x

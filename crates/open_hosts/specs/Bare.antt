@@ -5,7 +5,7 @@ use mathlib.Core.List.{List, [], _∷_, _++_}
 use mathlib.Core.Bool.{Bool, true, false, not, _&&_, _||_}
 use native.Mathlib.Omega.{arith}
 use lib.ListN.{length, length-append}
-use Rattle.lists.specs.Lists.{any, concatMap, same}
+use Rattle.lists.specs.Lists.{anyOf, concatMap, same}
 use Rattle.lists.specs.ListLaws.{and-first, and-second, same-eq}
 use Rattle.reader.specs.Text.{wordsFor, encodeString}
 use Rattle.host.specs.Host.{HostFn, named, pairsDistinct, encodeHost}
@@ -37,12 +37,12 @@ unfolding named
 host-four h = omega (arith, host-length h, host-long (h .moduleName) (h .name))
 
 -- after two empty strings they do not stand again
-bare-once : (h : HostFn) (hs : List HostFn) → pairsDistinct (h ∷ hs) ≡ true → named [] [] h ≡ true → any (named [] []) hs ≡ false
+bare-once : (h : HostFn) (hs : List HostFn) → pairsDistinct (h ∷ hs) ≡ true → named [] [] h ≡ true → anyOf (named [] []) hs ≡ false
 unfolding pairsDistinct named
 bare-once h hs d e =
     let m : [] ≡ h .moduleName = same-eq [] (h .moduleName) (and-first (same [] (h .moduleName)) (same [] (h .name)) e) in
     let n : [] ≡ h .name = same-eq [] (h .name) (and-second (same [] (h .moduleName)) (same [] (h .name)) e) in
-    ap₂ (λ a b. any (named a b) hs) m n ∙ not-so (any (named (h .moduleName) (h .name)) hs) (and-first (not (any (named (h .moduleName) (h .name)) hs)) (pairsDistinct hs) d)
+    ap₂ (λ a b. anyOf (named a b) hs) m n ∙ not-so (anyOf (named (h .moduleName) (h .name)) hs) (and-first (not (anyOf (named (h .moduleName) (h .name)) hs)) (pairsDistinct hs) d)
   where
     not-so : (b : Bool) → not b ≡ true → b ≡ false
     not-so true e = sym e
@@ -50,25 +50,26 @@ bare-once h hs d e =
 
 distinct-rest : (h : HostFn) (hs : List HostFn) → pairsDistinct (h ∷ hs) ≡ true → pairsDistinct hs ≡ true
 unfolding pairsDistinct
-distinct-rest h hs d = and-second (not (any (named (h .moduleName) (h .name)) hs)) (pairsDistinct hs) d
+distinct-rest h hs d = and-second (not (anyOf (named (h .moduleName) (h .name)) hs)) (pairsDistinct hs) d
 
 sum : (t u : Bool) (l k n : ℕ) → 4 ≤ l + one t → 4 * n ≤ k + one u → (t ≡ true → u ≡ false) → 4 * suc n ≤ l + k + one (t || u)
 sum true true l k n h i f = let e = f refl in let z : _≡_ {A = ℕ} 0 1 = cc in absurd (omega arith)
 sum true false l k n h i f = omega arith
 sum false u l k n h i f = omega arith
 
-distinct-long : (hs : List HostFn) → pairsDistinct hs ≡ true → 4 * length hs ≤ length (concatMap encodeHost hs) + one (any (named [] []) hs)
+distinct-long : (hs : List HostFn) → pairsDistinct hs ≡ true
+    → 4 * length hs ≤ length (concatMap encodeHost hs) + one (anyOf (named [] []) hs)
 distinct-long [] d = omega arith
 distinct-long (h ∷ hs) d =
     omega (
       arith,
       length-append (encodeHost h) (concatMap encodeHost hs),
-      sum (named [] [] h) (any (named [] []) hs) (length (encodeHost h)) (length (concatMap encodeHost hs)) (length hs) (host-four h) (distinct-long hs (distinct-rest h hs d)) (bare-once h hs d),
+      sum (named [] [] h) (anyOf (named [] []) hs) (length (encodeHost h)) (length (concatMap encodeHost hs)) (length hs) (host-four h) (distinct-long hs (distinct-rest h hs d)) (bare-once h hs d),
     )
 
 -- four words for each entry but one
 pub distinct-few : (hs : List HostFn) → pairsDistinct hs ≡ true → 4 * length hs ≤ length (concatMap encodeHost hs) + 1
-distinct-few hs d = go (any (named [] []) hs) (distinct-long hs d)
+distinct-few hs d = go (anyOf (named [] []) hs) (distinct-long hs d)
   where
     go : (b : Bool) → 4 * length hs ≤ length (concatMap encodeHost hs) + one b → 4 * length hs ≤ length (concatMap encodeHost hs) + 1
     go true h = h

@@ -9,7 +9,7 @@ use native.Mathlib.Nat.{zero-add}
 use lib.Dec.{ltb}
 use lib.ListN.{length, getD, drop, length-append, length-drop}
 use lib.Seq.{slice}
-use Rattle.lists.specs.Lists.{all, concatMap}
+use Rattle.lists.specs.Lists.{allOf, concatMap}
 use Rattle.lists.specs.ListLaws.{and-first, and-second}
 use Rattle.blocks.specs.ByteLaws.{isWord}
 use Rattle.utf8.specs.Utf8.{wellFormed}
@@ -49,7 +49,7 @@ opened ws w f =
     let i = word-inv ws 2 e₁ in
     f q (i .0) (ap₂ (λ k r. many k hostFn ws r) (sym (i .1)) (sym (i .2)) ∙ e₂ ∙ ap (λ l. got l q) (sym (value-got [] e)))
 
-module _ (ws : List ℕ) (w : Whole (listOf hostFn ws 2)) (small : all isWord ws ≡ true) where
+module _ (ws : List ℕ) (w : Whole (listOf hostFn ws 2)) (small : allOf isWord ws ≡ true) where
   pub hosts-count : length (hostsIn ws) ≡ entryCount ws
   hosts-count = opened ws w λ q h e. many-found ws hostFn encodeHost codedHost (host-codes ws small) (entryCount ws) 3 (hostsIn ws) q e .1
 
@@ -133,7 +133,7 @@ module _ (ws v : List ℕ) (d : Edged ws v) where
 
 -- ── the room ──
 
-module _ (ws : List ℕ) (w : Whole (listOf hostFn ws 2)) (small : all isWord ws ≡ true) where
+module _ (ws : List ℕ) (w : Whole (listOf hostFn ws 2)) (small : allOf isWord ws ≡ true) where
   -- the entries stand after word 2
   pub entries-inside : 3 + length (concatMap encodeHost (hostsIn ws)) ≤ length ws
   entries-inside = opened ws w λ q h e.

@@ -1,4 +1,4 @@
--- The order of the entries: what stands between equal pairs equals them, and a pair is found by halves.
+-- The order of the entries: what stands between equal pairs equals them, and a pair is found by binary search.
 use Prim.Native.Nat.{ℕ, _+_, _-_, _≤_, _<_}
 use mathlib.Core.Path.{_≡_, refl, sym, ap, ap₂, subst, _∙_}
 use mathlib.Core.List.{List}
@@ -142,7 +142,7 @@ module _ (ws v : List ℕ) (a : Arranged ws v) where
       sym (pair-twice (placed ws v (i - 1)) (placed ws v i) (once (entryCount ws) (placed ws v) (a .ordered .all) (i - 1) i (omega arith) h) (placed-below (i - 1) (omega arith)) (placed-below i h)
       (lex-same (pairOf (entryOf ws (placed ws v (i - 1)))) (pairOf (entryOf ws (placed ws v i))) e))
 
-  -- ── a pair by halves ──
+  -- ── binary search for a pair ──
 
   module _ (m n : List ℕ) where
     pub halves-start : Halves ws v m n 0 (entryCount ws)

@@ -8,7 +8,7 @@ use native.Mathlib.Decide.{decLt}
 use lib.Dec.{eqb}
 use lib.ListN.{length, getD}
 use borrow.Author.Tests.{lt-ltb, le-ltb}
-use Rattle.lists.specs.Lists.{any, firstAt}
+use Rattle.lists.specs.Lists.{anyOf, firstAt}
 use Rattle.lists.specs.FirstLaws.{first-most, first-passes, first-in, first-end}
 use Rattle.host.specs.declared.Found.{Found}
 use Rattle.host.specs.declared.Found.the-variants.{At, Missing}
@@ -19,22 +19,22 @@ use Rattle.host.specs.Listed.{foundAt, found}
 abbrev pub alike : List HostFn → ℕ → ℕ → Bool
 alike hs i j = named (getD hs i nobody .moduleName) (getD hs i nobody .name) (getD hs j nobody)
 
-any-none : (p : HostFn → Bool) (hs : List HostFn) → ((i : ℕ) → i < length hs → p (getD hs i nobody) ≡ false) → any p hs ≡ false
+any-none : (p : HostFn → Bool) (hs : List HostFn) → ((i : ℕ) → i < length hs → p (getD hs i nobody) ≡ false) → anyOf p hs ≡ false
 any-none p [] f = refl
-any-none p (h ∷ hs) f = go (p h) (any p hs) (f 0 (omega arith)) (any-none p hs λ i k. f (suc i) (omega arith))
+any-none p (h ∷ hs) f = go (p h) (anyOf p hs) (f 0 (omega arith)) (any-none p hs λ i k. f (suc i) (omega arith))
   where
     go : (a b : Bool) → a ≡ false → b ≡ false → (a || b) ≡ false
     go true b e i = e
     go false b e i = i
 
-any-some : (p : HostFn → Bool) (hs : List HostFn) (i : ℕ) → i < length hs → p (getD hs i nobody) ≡ true → any p hs ≡ true
+any-some : (p : HostFn → Bool) (hs : List HostFn) (i : ℕ) → i < length hs → p (getD hs i nobody) ≡ true → anyOf p hs ≡ true
 any-some p [] i h e = absurd (omega arith)
-any-some p (h ∷ hs) zero l e = first (p h) (any p hs) e
+any-some p (h ∷ hs) zero l e = first (p h) (anyOf p hs) e
   where
     first : (a b : Bool) → a ≡ true → (a || b) ≡ true
     first true b e = refl
     first false b e = let z : _≡_ {A = ℕ} 0 1 = cc in absurd (omega arith)
-any-some p (h ∷ hs) (suc i) l e = later (p h) (any p hs) (any-some p hs i (omega arith) e)
+any-some p (h ∷ hs) (suc i) l e = later (p h) (anyOf p hs) (any-some p hs i (omega arith) e)
   where
     later : (a b : Bool) → b ≡ true → (a || b) ≡ true
     later true b e = refl
@@ -44,7 +44,7 @@ any-some p (h ∷ hs) (suc i) l e = later (p h) (any p hs) (any-some p hs i (ome
 pub apart : (hs : List HostFn) → ((i j : ℕ) → i < j → j < length hs → alike hs i j ≡ false) → pairsDistinct hs ≡ true
 unfolding pairsDistinct
 apart [] f = refl
-apart (h ∷ hs) f = go (any (named (h .moduleName) (h .name)) hs) (pairsDistinct hs) (any-none (named (h .moduleName) (h .name)) hs λ i k. f 0 (suc i) (omega arith) (omega arith)) (apart hs λ i j k l. f (suc i) (suc j) (omega arith) (omega arith))
+apart (h ∷ hs) f = go (anyOf (named (h .moduleName) (h .name)) hs) (pairsDistinct hs) (any-none (named (h .moduleName) (h .name)) hs λ i k. f 0 (suc i) (omega arith) (omega arith)) (apart hs λ i j k l. f (suc i) (suc j) (omega arith) (omega arith))
   where
     go : (a b : Bool) → a ≡ false → b ≡ true → (not a && b) ≡ true
     go true b e i = let z : _≡_ {A = ℕ} 0 1 = cc in absurd (omega arith)
@@ -55,12 +55,12 @@ pub twice : (hs : List HostFn) (i j : ℕ) → i < j → j < length hs → alike
 unfolding pairsDistinct
 twice [] i j h k e = absurd (omega arith)
 twice (h ∷ hs) i zero l k e = absurd (omega arith)
-twice (h ∷ hs) zero (suc j) l k e = go (any (named (h .moduleName) (h .name)) hs) (pairsDistinct hs) (any-some (named (h .moduleName) (h .name)) hs j (omega arith) e)
+twice (h ∷ hs) zero (suc j) l k e = go (anyOf (named (h .moduleName) (h .name)) hs) (pairsDistinct hs) (any-some (named (h .moduleName) (h .name)) hs j (omega arith) e)
   where
     go : (a b : Bool) → a ≡ true → (not a && b) ≡ false
     go true b e = refl
     go false b e = let z : _≡_ {A = ℕ} 0 1 = cc in absurd (omega arith)
-twice (h ∷ hs) (suc i) (suc j) l k e = go (any (named (h .moduleName) (h .name)) hs) (pairsDistinct hs) (twice hs i j (omega arith) (omega arith) e)
+twice (h ∷ hs) (suc i) (suc j) l k e = go (anyOf (named (h .moduleName) (h .name)) hs) (pairsDistinct hs) (twice hs i j (omega arith) (omega arith) e)
   where
     go : (a b : Bool) → b ≡ false → (not a && b) ≡ false
     go true b e = refl

@@ -7,7 +7,7 @@ use native.Mathlib.Omega.{arith}
 use lib.Dec.{eqb}
 use lib.ListN.{length, take, drop}
 use lib.Seq.{slice}
-use Rattle.lists.specs.Lists.{all, concatMap}
+use Rattle.lists.specs.Lists.{allOf, concatMap}
 use Rattle.lists.specs.ListLaws.{and-first}
 use Rattle.blocks.specs.Blocks.{words, bytesOf}
 use Rattle.blocks.specs.ByteLaws.{isByte}
@@ -38,7 +38,7 @@ pub text-fine : (ws : List ℕ) (p : ℕ) → Whole (string ws p) → wellFormed
 text-fine ws p w = whole-inv (string ws p) w λ s q e. ap wellFormed (value-got [] e) ∙ go s q e
   where
     good : (k : ℕ) (bs : List ℕ) → goodText k bs ≡ true → wellFormed (take k bs) ≡ true
-    good k bs t = unfold goodText in and-first (wellFormed (take k bs)) (all (eqb 0) (drop k bs)) (unfold goodText in t)
+    good k bs t = unfold goodText in and-first (wellFormed (take k bs)) (allOf (eqb 0) (drop k bs)) (unfold goodText in t)
 
     go : (s : List ℕ) (q : ℕ) → string ws p ≡ got s q → wellFormed s ≡ true
     go s q e = unfold string in
@@ -48,7 +48,7 @@ text-fine ws p w = whole-inv (string ws p) w λ s q e. ap wellFormed (value-got 
         let x : take k bs ≡ s = cc in
         ap wellFormed (sym x) ∙ good k bs t
 
-module _ (b : List ℕ) (n p : ℕ) (w : Whole (string (firstWords b n) p)) {e : ℕ} (q : Next e ≡ stepOf (string (firstWords b n) p)) (small : all isByte b ≡ true) where
+module _ (b : List ℕ) (n p : ℕ) (w : Whole (string (firstWords b n) p)) {e : ℕ} (q : Next e ≡ stepOf (string (firstWords b n) p)) (small : allOf isByte b ≡ true) where
   text-range : {C : Type 0} → (p ≤ e → e ≤ length (firstWords b n) → slice p e (firstWords b n) ≡ encodeString (textAt (firstWords b n) p) → C) → C
   text-range f =
       whole-inv (string (firstWords b n) p) w λ s r g.
@@ -63,7 +63,7 @@ module _ (b : List ℕ) (n p : ℕ) (w : Whole (string (firstWords b n) p)) {e :
       long s = unfold encodeString in omega arith
 
 module _ (a : List ℕ) (n p : ℕ) (b : List ℕ) (m q : ℕ) {pe qe : ℕ} (w : Whole (string (firstWords a n) p)) (u : Whole (string (firstWords b m) q))
-    (e : Next pe ≡ stepOf (string (firstWords a n) p)) (f : Next qe ≡ stepOf (string (firstWords b m) q)) (sa : all isByte a ≡ true) (sb : all isByte b ≡ true) where
+    (e : Next pe ≡ stepOf (string (firstWords a n) p)) (f : Next qe ≡ stepOf (string (firstWords b m) q)) (sa : allOf isByte a ≡ true) (sb : allOf isByte b ≡ true) where
   pub texts-room : (p ≤ pe) × (pe ≤ length (firstWords a n)) × (q ≤ qe) × (qe ≤ length (firstWords b m))
   texts-room = text-range a n p w e sa λ x y z. text-range b m q u f sb λ x₂ y₂ z₂. (x, y, x₂, y₂)
 

@@ -4,7 +4,7 @@ use mathlib.Core.Path.{_≡_}
 use mathlib.Core.List.{List}
 use mathlib.Core.Bool.{true}
 use lib.ListN.{length, getD}
-use Rattle.lists.specs.Lists.{all}
+use Rattle.lists.specs.Lists.{allOf}
 use Rattle.blocks.specs.Blocks.{words}
 use Rattle.blocks.specs.ByteLaws.{isWord}
 use Rattle.blocks.specs.Frame.{firstWords}
@@ -28,7 +28,7 @@ entryCount ws = getD ws 2 0
 -- v begins with the edges: entry i stands from edge i to edge i + 1
 pub record Edged (ws v : List ℕ) : Type 0 where
   pub whole : Whole (listOf hostFn ws 2)
-  pub small : all isWord ws ≡ true
+  pub small : allOf isWord ws ≡ true
   pub room : 3 * entryCount ws + 1 ≤ length v
   pub begins : getD v 0 0 ≡ 3
   pub entry : (i : ℕ) → i < entryCount ws → hostFn ws (getD v i 0) ≡ got (getD (hostsIn ws) i nobody) (getD v (i + 1) 0)

@@ -1,4 +1,4 @@
-// A sorted index of the host list in lent words: pairs are tested and imports are found by halves.
+// A sorted index of the host list in lent words: pairs are tested, and imports are found by binary search.
 ghost use mathlib.Core.Path.{_≡_};
 ghost use Prim.Native.Nat.{_≤_, _<_};
 ghost use lib.ListN.{length};

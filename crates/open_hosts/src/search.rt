@@ -1,4 +1,4 @@
-// A pair among the entries, by halves of their order.
+// A pair among the entries, by binary search in their order.
 ghost use mathlib.Core.Path.{_≡_};
 ghost use Prim.Native.Nat.{_<_};
 ghost use lib.Dec.{eqb};

@@ -9,7 +9,7 @@ use lib.ListN.{length, getD, set, drop, length-append}
 use lib.Seq.{paste, paste-zero, paste-suc, length-paste}
 use Rattle.blocks.specs.Blocks.{words}
 use Rattle.blocks.specs.Frame.{firstWords}
-use Rattle.lists.specs.Lists.{all}
+use Rattle.lists.specs.Lists.{allOf}
 use Rattle.blocks.specs.ByteLaws.{isByte, isWord}
 use Rattle.blocks.specs.FirstWords.{length-firstWords, firstWords-small}
 use Rattle.reader.specs.declared.Step.{Step}
@@ -35,7 +35,7 @@ pub record Indexes (part : Part) (ws : List ℕ) (at : ℕ) (w₀ : List ℕ) (b
   pub rest : many left (memberOf part) ws q ≡ got ahead stop
   pub still : drop (i - base) (edgesOf part ws at) ≡ ahead ++ (stop ∷ [])
   pub wrote : w ≡ paste w₀ base (edgesOf part ws at) (i - base)
-  pub small : all isWord ws ≡ true
+  pub small : allOf isWord ws ≡ true
   pub inside : q ≤ length ws
 
 module _ (part : Part) (bytes : List ℕ) (n at : ℕ) (w₀ : List ℕ) (base : ℕ) where
@@ -44,7 +44,7 @@ module _ (part : Part) (bytes : List ℕ) (n at : ℕ) (w₀ : List ℕ) (base :
   unfolding listOf
   start-go xs q h k e = rw (word-read bytes n at h k) at e
 
-  pub indexes-start : {c : ℕ} → all isByte bytes ≡ true → Whole (listOf (memberOf part) (firstWords bytes n) at) → base + length (edgesOf part (firstWords bytes n) at) ≤ length w₀ →
+  pub indexes-start : {c : ℕ} → allOf isByte bytes ≡ true → Whole (listOf (memberOf part) (firstWords bytes n) at) → base + length (edgesOf part (firstWords bytes n) at) ≤ length w₀ →
       c ≡ getD (words bytes) at 0 → Indexes part (firstWords bytes n) at w₀ base w₀ c (at + 1) base
   unfolding edgesOf
   indexes-start {c} b h r k =

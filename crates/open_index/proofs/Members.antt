@@ -12,7 +12,7 @@ use Rattle.blocks.specs.Frame.{firstWords}
 use Rattle.reader.specs.declared.Step.{Step}
 use Rattle.reader.specs.declared.Step.the-variants.{Next, Broken}
 use Rattle.reader.specs.Reader.{Got, broken, got, Reader, andThen, word, many, listOf}
-use Rattle.lists.specs.Lists.{all}
+use Rattle.lists.specs.Lists.{allOf}
 use Rattle.blocks.specs.ByteLaws.{isWord}
 use Rattle.utf8.specs.Utf8.{wellFormed}
 use Rattle.reader.specs.Text.{string, encodeString}
@@ -95,7 +95,7 @@ unfolding posOf
 posOf-inside f enc ok ws l h p s q e =
     then-inv (f ws p) _ e λ a p₁ e₁ e₂. let z : p₁ ≡ q = cc in omega (arith, read-inside ws f enc ok l p a p₁ e₁ (h a))
 
-pub member-inside : (part : Part) (ws : List ℕ) → all isWord ws ≡ true → (p s q : ℕ) → memberOf part ws p ≡ got s q → q ≤ length ws
+pub member-inside : (part : Part) (ws : List ℕ) → allOf isWord ws ≡ true → (p s q : ℕ) → memberOf part ws p ≡ got s q → q ≤ length ws
 unfolding memberOf encodeString encodeType encodeImport encodeFunc
 member-inside Strings ws w = posOf-inside string encodeString wellFormed ws (string-codes ws w) (λ a. omega arith)
 member-inside Types ws w = posOf-inside typeDef encodeType codedType ws (type-codes ws) (λ a. omega arith)

@@ -5,7 +5,7 @@ use mathlib.Core.List.{List, [], _∷_, _++_}
 use mathlib.Core.Bool.{Bool, true}
 use native.Mathlib.Omega.{arith}
 use lib.ListN.{length, getD, length-append}
-use Rattle.lists.specs.Lists.{all}
+use Rattle.lists.specs.Lists.{allOf}
 use Rattle.reader.specs.Reader.{Got, broken, got, Reader, andThen, word, many, listOf}
 use Rattle.reader.specs.ReaderLaws.{stands-in, Codes, then-inv, seq, word-codes}
 use Rattle.reader.specs.ReadLaws.{many-fit}

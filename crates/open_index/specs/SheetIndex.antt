@@ -6,7 +6,7 @@ use mathlib.Core.Bool.{true}
 use mathlib.Core.Option.{Option, none, some}
 use native.Mathlib.Omega.{arith}
 use lib.ListN.{length, length-append}
-use Rattle.lists.specs.Lists.{all}
+use Rattle.lists.specs.Lists.{allOf}
 use Rattle.blocks.specs.Blocks.{framed}
 use Rattle.blocks.specs.ByteLaws.{isWord}
 use Rattle.blocks.specs.Frame.{firstWords, frameOf}
@@ -115,7 +115,7 @@ module _ (ws : List ℕ) (m : Module) (l : Layout) (x : Located ws m l) where
 
   -- ── room ──
 
-  strings-fit : all isWord ws ≡ true → l .strings + 1 + length (m .strings) ≤ l .types
+  strings-fit : allOf isWord ws ≡ true → l .strings + 1 + length (m .strings) ≤ l .types
   strings-fit w =
       list-fit string ws (l .strings) (m .strings) (l .types) encodeString wellFormed (string-codes ws w) (λ b. unfold encodeString in omega arith) (x .strings)
 
@@ -144,7 +144,7 @@ module _ (ws : List ℕ) (m : Module) (l : Layout) (x : Located ws m l) where
   exports-fit = list-fit exportOf ws (l .exports) (m .exports) (l .words) encodeExport codedExport (export-codes ws) (λ e. unfold encodeExport in omega arith) (x .exports)
 
   -- a word of work for each word of the sheet is room enough
-  pub index-fits : all isWord ws ≡ true → length (index ws l) ≤ l .words
+  pub index-fits : allOf isWord ws ≡ true → length (index ws l) ≤ l .words
   unfolding index
   index-fits w =
       let s₁ = edgesOf Strings ws (l .strings) in

@@ -8,7 +8,7 @@ use native.Mathlib.Nat.{zero-add}
 use native.Mathlib.Numerals.{add-one}
 use lib.ListN.{length, getD, drop, length-append, List·getD-append}
 use lib.Seq.{paste, take-length, length-paste, getD-append-add}
-use Rattle.lists.specs.Lists.{all}
+use Rattle.lists.specs.Lists.{allOf}
 use Rattle.blocks.specs.ByteLaws.{isByte, isWord}
 use Rattle.blocks.specs.Frame.{firstWords}
 use Rattle.blocks.specs.FirstWords.{firstWords-small}
@@ -83,7 +83,7 @@ module _ (s₁ s₂ s₃ s₄ s₅ : List ℕ) where
 
 pub record Filed (ws w : List ℕ) (l : Layout) : Type 0 where
   pub located : Located ws (moduleIn ws) l
-  pub small : all isWord ws ≡ true
+  pub small : allOf isWord ws ≡ true
   pub room : 64 + 8 * l .words ≤ length w
   pub fits : length (index ws l) ≤ l .words
   pub held : (k : ℕ) → k < length (index ws l) → getD w k 0 ≡ getD (index ws l) k 0
@@ -92,10 +92,10 @@ module _ (b w : List ℕ) (l : Layout) where
   abbrev ws : List ℕ
   ws = firstWords b (l .words)
 
-  pub filed-room : all isByte b ≡ true → Located ws (moduleIn ws) l → 64 + 8 * l .words ≤ length w → length (index ws l) ≤ length w
+  pub filed-room : allOf isByte b ≡ true → Located ws (moduleIn ws) l → 64 + 8 * l .words ≤ length w → length (index ws l) ≤ length w
   filed-room h x r = omega (arith, index-fits ws (moduleIn ws) l x (firstWords-small b (l .words) h))
 
-  pub filed : all isByte b ≡ true → Located ws (moduleIn ws) l → 64 + 8 * l .words ≤ length w → {v : List ℕ} → v ≡ paste w 0 (index ws l) (length (index ws l)) → Filed ws v l
+  pub filed : allOf isByte b ≡ true → Located ws (moduleIn ws) l → 64 + 8 * l .words ≤ length w → {v : List ℕ} → v ≡ paste w 0 (index ws l) (length (index ws l)) → Filed ws v l
   filed h x r e =
       let s = firstWords-small b (l .words) h in
       let f = index-fits ws (moduleIn ws) l x s in

@@ -3,7 +3,7 @@ ghost use mathlib.Core.Path.{_≡_};
 ghost use Rattle.blocks.specs.Frame.{firstWords};
 ghost use Rattle.reader.specs.Reader.{listOf};
 ghost use Rattle.reader.specs.Step.{stepOf};
-ghost use Rattle.sheet.specs.Module.{map};
+ghost use Rattle.sheet.specs.Module.{TypeDef};
 ghost use Rattle.sheet.specs.Decode.{valueType, fieldOf, funcType, structType, ofTwo, typeDef};
 use blocks::word;
 use reader::Step;
@@ -116,7 +116,7 @@ fn skip_struct(sheet: &[u8], n: usize, at: usize) -> Step
 
 // Key, then value.
 fn skip_two(sheet: &[u8], n: usize, at: usize) -> Step
-    ensures { λ r. ⌜ r ≡ stepOf (ofTwo map (firstWords (now (sheet .entry)) n) at) ⌝ }
+    ensures { λ r. ⌜ r ≡ stepOf (ofTwo TypeDef.map (firstWords (now (sheet .entry)) n) at) ⌝ }
 {
     match skip_value(sheet, n, at) {
         Step::Next(p) => skip_value(sheet, n, p),

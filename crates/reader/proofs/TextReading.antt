@@ -8,7 +8,7 @@ use native.Mathlib.Decide.{decLt}
 use lib.Dec.{eqb}
 use lib.ListN.{length, getD, take}
 use borrow.Author.Tests.{eq-eqb, ne-eqb}
-use Rattle.lists.specs.Lists.{all, concatMap}
+use Rattle.lists.specs.Lists.{allOf, concatMap}
 use Rattle.blocks.specs.Blocks.{bytesOf, words}
 use Rattle.blocks.specs.Frame.{firstWords}
 use Rattle.utf8.specs.declared.State.{State}
@@ -52,7 +52,7 @@ pub ruleset ending = (ends-start, ends-next, ends-done, ends-more)
 
 -- ── the bytes that they are ──
 
-zero-bytes : (k w : ℕ) → w < 256 ^ k → all (eqb 0) (bytesOf k w) ≡ eqb w 0
+zero-bytes : (k w : ℕ) → w < 256 ^ k → allOf (eqb 0) (bytesOf k w) ≡ eqb w 0
 unfolding bytesOf
 zero-bytes zero w h = sym (eq-eqb w 0 (omega arith))
 zero-bytes (suc k) w h =

@@ -9,7 +9,7 @@ use lib.Dec.{eqb}
 use lib.ListN.{length, getD, take, drop, length-append}
 use lib.Seq.{slice, length-slice, getD-take, getD-drop, ext-getD, drop-length, drop-append-seam}
 use borrow.Author.Tests.{eqb-true, eq-eqb}
-use Rattle.lists.specs.Lists.{all, concatMap}
+use Rattle.lists.specs.Lists.{allOf, concatMap}
 use Rattle.reader.specs.Reader.{Got, broken, got, Reader, word, many, listOf, whole, content}
 use Rattle.reader.specs.ReaderLaws.{Stands, stands-in, stands-at, Codes, then-inv, seq, word-codes, many-found}
 

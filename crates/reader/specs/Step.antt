@@ -4,7 +4,7 @@ use mathlib.Core.List.{List}
 use mathlib.Core.Bool.{Bool, cond, _&&_}
 use lib.Dec.{eqb}
 use lib.ListN.{take, drop}
-use Rattle.lists.specs.Lists.{all, concatMap}
+use Rattle.lists.specs.Lists.{allOf, concatMap}
 use Rattle.blocks.specs.Blocks.{bytesOf}
 use Rattle.utf8.specs.Utf8.{Place, next, after, done}
 use Rattle.reader.specs.declared.Step.{Step}
@@ -18,7 +18,7 @@ stepOf (got a p) = Next p
 
 -- m bytes that go on from a place to the end of a character, and zeros after them
 unfoldable pub goodRest : Place → ℕ → List ℕ → Bool
-goodRest p m bytes = done (after p (take m bytes)) && all (eqb 0) (drop m bytes)
+goodRest p m bytes = done (after p (take m bytes)) && allOf (eqb 0) (drop m bytes)
 
 -- m more bytes of a string whose bytes so far leave off at a place
 unfoldable pub textRest : Place → ℕ → Reader (List ℕ)

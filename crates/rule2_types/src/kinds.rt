@@ -2,7 +2,7 @@
 ghost use mathlib.Core.Path.{_≡_};
 ghost use Rattle.error.specs.Verdict.{verdictOf};
 ghost use Rattle.reader.specs.Value.{Whole, valueOf};
-ghost use Rattle.sheet.specs.Module.{coroutine, map};
+ghost use Rattle.sheet.specs.Module.{TypeDef, coroutine};
 ghost use Rattle.sheet.specs.Decode.{funcType, ofTwo, typeDef};
 ghost use Rattle.open_sheet.specs.Ready.{Opens, sheetWords, moduleOf};
 ghost use Rattle.types.specs.Types.{typeFaults};
@@ -34,9 +34,9 @@ pub fn check_sig(sheet: &[u8], o: Opened, at: usize) -> Verdict
 
 // Key before value.
 fn check_two(sheet: &[u8], o: Opened, at: usize) -> Verdict
-    requires { ⌜ Whole (ofTwo map (sheetWords (now sheet) o) at) ⌝ }
+    requires { ⌜ Whole (ofTwo TypeDef.map (sheetWords (now sheet) o) at) ⌝ }
     requires { ⌜ Opens (sheetWords (now sheet) o) o ⌝ }
-    ensures { λ r. ⌜ r ≡ verdictOf (typeFaults (moduleOf (now (sheet .entry)) o) (valueOf coroutine (ofTwo map (sheetWords (now (sheet .entry)) o) at))) ⌝ }
+    ensures { λ r. ⌜ r ≡ verdictOf (typeFaults (moduleOf (now (sheet .entry)) o) (valueOf coroutine (ofTwo TypeDef.map (sheetWords (now (sheet .entry)) o) at))) ⌝ }
 {
     let value_at = at + 1;
     match check_value(sheet, o, at) {

@@ -1,4 +1,4 @@
--- Lengths of chains that are remembered: read, used, noted.
+-- Lengths of chains that are memoised: read, used, noted.
 use Prim.Native.Nat.{ℕ, _+_, _*_, _-_, _≤_, _<_, min}
 use mathlib.Core.Path.{_≡_, refl, sym, ap, subst, _∙_}
 use mathlib.Core.List.{List}
@@ -56,7 +56,7 @@ module _ (o : Opened) where
   pub kept-noting : (w v u : List ℕ) (t n left : ℕ) → Kept o w v → u ≡ noted o v t n left → Kept o w u
   kept-noting w v u t n left f e = kept-then o w v u f (subst (Kept o v) (sym e) (kept-noted v t n left))
 
--- ── what is remembered ──
+-- ── what is memoised ──
 
 -- what has a parent is a struct
 with-parent : (d : TypeDef) {p : ℕ} → p ≡ parentWord d → (p ≡ 0 → ⊥) → isStruct d ≡ true

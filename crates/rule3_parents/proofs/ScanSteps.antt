@@ -156,7 +156,7 @@ module _ (most : ℕ) (types : List TypeDef) where
 
 -- ── over a sheet that is ready ──
 
--- w is w₀ but for the free words, which remember lengths; nothing was found before type t
+-- w is w₀ but for the free words, which hold memoised lengths; nothing was found before type t
 pub record Passes (most : ℕ) (ws w₀ : List ℕ) (o : Opened) (w : List ℕ) (found : Verdict) (t : ℕ) : Type 0 where
   pub remembers : Remembers ws w o
   pub kept : Kept o w₀ w

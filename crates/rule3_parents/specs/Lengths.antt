@@ -1,4 +1,4 @@
--- Lengths of whole chains in the free words, one word a type.
+-- Lengths of whole chains, memoised in the free words, one word a type.
 use Prim.Native.Nat.{ℕ, _+_, _*_, min}
 use mathlib.Core.Path.{_≡_}
 use mathlib.Core.List.{List}

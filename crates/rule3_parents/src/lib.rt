@@ -82,7 +82,7 @@ fn known_length(work: &[u32], o: Opened, t: TypeId) -> u32
     0
 }
 
-// Remember a length below the limit: that chain has ended.
+// Memoise a length below the limit: that chain has ended.
 fn note_length(work: &mut [u32], o: Opened, t: TypeId, n: u32, left: u32)
     requires { ⌜ 5 * o .layout .words + t .0 < length (now work) ⌝ }
     ensures { λ r. ⌜ now (work .exit) ≡ noted o (now (work .entry)) (t .0) n left ⌝ }

@@ -7,7 +7,7 @@ use native.Mathlib.Decide.{decLt}
 use lib.Dec.{leb, ltb}
 use lib.ListN.{length, getD, set, take, length-set}
 use lib.Seq.{getD-take, length-take-le, getD-set-same, getD-set-other}
-use Rattle.lists.specs.Lists.{all, concatMapFrom}
+use Rattle.lists.specs.Lists.{allOf, concatMapFrom}
 use Rattle.error.specs.declared.LoadErrorKind.{LoadErrorKind}
 use Rattle.error.specs.declared.LoadErrorKind.the-variants.{BadConstant}
 use Rattle.error.specs.declared.Judged.{Judged}
@@ -53,7 +53,7 @@ nesting-faults m most i k h e =
     let ds = depths (m .consts) in
     let d : depthOf (take i ds) (childrenOf k) ≡ getD ds i 0 = sym (depth-at (m .consts) i (plain 0 0) h ∙ ap (λ x. depthOf (take i ds) (childrenOf x)) e) in
     let a = stringConstFaults m k in
-    let b = unless (all (λ c. ltb c i) (childrenOf k)) BadConstant in
+    let b = unless (allOf (λ c. ltb c i) (childrenOf k)) BadConstant in
     ap (λ x. nestedOf (a ++ (b ++ unless (leb x most) BadConstant)) x) d
     ∙ ap (λ l. nestedOf l (getD ds i 0)) (sym (append-assoc a b (unless (leb (getD ds i 0) most) BadConstant)))
 

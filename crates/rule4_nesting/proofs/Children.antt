@@ -8,7 +8,7 @@ use native.Mathlib.Decide.{decLt}
 use lib.Dec.{ltb}
 use lib.ListN.{getD}
 use borrow.Author.Tests.{lt-ltb, le-ltb, le-leb, lt-leb}
-use Rattle.lists.specs.Lists.{all}
+use Rattle.lists.specs.Lists.{allOf}
 use Rattle.blocks.specs.Blocks.{words}
 use Rattle.blocks.specs.Frame.{firstWords}
 use Rattle.error.specs.declared.LoadErrorKind.the-variants.{BadConstant}
@@ -41,7 +41,7 @@ module _ (most : ℕ) (done : List ℕ) (i depth c : ℕ) (cs : List ℕ) where
   unfolding nestOn nestFaults depthOf
   on-deep h k =
       rw (lt-ltb c i h, lt-leb (max depth (max (suc (getD done c 0)) (depthOf done cs))) most (omega arith))
-      (go (all (λ x. ltb x i) cs) (max depth (max (suc (getD done c 0)) (depthOf done cs))))
+      (go (allOf (λ x. ltb x i) cs) (max depth (max (suc (getD done c 0)) (depthOf done cs))))
     where
       go : (t : Bool) (d : ℕ) → nestedOf (unless t BadConstant ++ (BadConstant ∷ [])) d ≡ Broken BadConstant
       go true d = unfold nestedOf in refl

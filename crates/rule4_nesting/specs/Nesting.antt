@@ -2,7 +2,7 @@
 use Prim.Native.Nat.{ℕ}
 use mathlib.Core.List.{List, [], _∷_, _++_}
 use lib.Dec.{leb, ltb}
-use Rattle.lists.specs.Lists.{all}
+use Rattle.lists.specs.Lists.{allOf}
 use Rattle.error.specs.declared.LoadErrorKind.{LoadErrorKind}
 use Rattle.error.specs.declared.LoadErrorKind.the-variants.{BadConstant}
 use Rattle.error.specs.Answer.{unless}
@@ -18,7 +18,7 @@ nestedOf (k ∷ ks) depth = Broken k
 
 -- the children are below i, and the depth is not over the most
 unfoldable pub nestFaults : ℕ → ℕ → List ℕ → ℕ → List LoadErrorKind
-nestFaults most i cs depth = unless (all (λ c. ltb c i) cs) BadConstant ++ unless (leb depth most) BadConstant
+nestFaults most i cs depth = unless (allOf (λ c. ltb c i) cs) BadConstant ++ unless (leb depth most) BadConstant
 
 -- of constant number i, by its children
 unfoldable pub nesting : ℕ → List ℕ → ℕ → List ℕ → Nested

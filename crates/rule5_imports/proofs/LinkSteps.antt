@@ -6,7 +6,7 @@ use mathlib.Core.Bool.{Bool, true, false, cond}
 use native.Mathlib.Omega.{arith}
 use lib.ListN.{length, getD}
 use borrow.Author.Tests.{ltb-true}
-use Rattle.lists.specs.Lists.{all}
+use Rattle.lists.specs.Lists.{allOf}
 use Rattle.blocks.specs.Blocks.{words}
 use Rattle.blocks.specs.Frame.{firstWords}
 use Rattle.error.specs.declared.LoadErrorKind.{LoadErrorKind}

@@ -62,7 +62,7 @@ regs-good ws c x e = regs-faults ws c x ∙ ((append-empty (concatMap (valueFaul
 
 -- ── first registers, then parameter list ──
 
-module _ (ws : List ℕ) (c : Frame) (x : Framed ws c) (p : ℕ) {u : Bool} (k : valueOf [] (listOf valueType ws p) ≡ sigParams (moduleIn ws) (c .body .sig))
+module _ (ws : List ℕ) (c : Frame) (x : Framed ws c) (p : ℕ) {u : Bool} (k : valueOf [] (listOf valueType ws p) ≡ sigParams (moduleIn ws) (c .body .sig .0))
     (g : u ≡ paramsFirst (moduleIn ws) (valueOf [] (listOf valueType ws p)) (valueOf [] (listOf valueType ws (c .body .regs)))) where
   taken : valueOf [] (listOf valueType ws p) ≡ sigParams (moduleIn ws) (funcOf ws c .sig)
   taken = k ∙ ap (sigParams (moduleIn ws)) (x .placed .sig)

@@ -155,7 +155,7 @@ module _ (ws : List ℕ) (c : Frame) (x : Framed ws c) {r : Verdict} (k : r ≡ 
 
 -- ── signature, registers, parameters ──
 
-module _ (ws : List ℕ) (c : Frame) (x : Framed ws c) {r : Verdict} (k : r ≡ verdictOf (signatureFaults (moduleIn ws) (c .body .sig))) where
+module _ (ws : List ℕ) (c : Frame) (x : Framed ws c) {r : Verdict} (k : r ≡ verdictOf (signatureFaults (moduleIn ws) (c .body .sig .0))) where
   sig-first : r ≡ verdictOf (signatureFaults (moduleIn ws) (funcOf ws c .sig))
   sig-first = k ∙ ap (λ t. verdictOf (signatureFaults (moduleIn ws) t)) (x .placed .sig)
 

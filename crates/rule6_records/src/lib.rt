@@ -9,7 +9,6 @@ ghost use Rattle.rule_signatures.specs.Signature.{HasSig};
 ghost use Rattle.rule_frames.specs.Frames.{funcOf, Framed};
 ghost use Rattle.rule6_records.specs.Records.{registersFaults, paramsFaults, headFaults, tailFaults, listsFaults};
 use error::LoadErrorKind;
-use error::TypeId;
 use error::Verdict;
 use error::What;
 use open_sheet::Opened;
@@ -46,12 +45,12 @@ fn check_sig_params(sheet: &[u8], work: &mut [u32], o: Opened, c: Frame) -> Verd
     requires { ⌜ Ready (sheetWords (now sheet) o) (now work) o ⌝ }
     requires { ⌜ Framed (sheetWords (now sheet) o) c ⌝ }
     requires { ⌜ typesFaults (moduleOf (now sheet) o) ≡ [] ⌝ }
-    requires { ⌜ HasSig (moduleOf (now sheet) o) (c .body .sig) ⌝ }
+    requires { ⌜ HasSig (moduleOf (now sheet) o) (c .body .sig .0) ⌝ }
     requires { ⌜ registersFaults (moduleOf (now sheet) o) (funcOf (sheetWords (now sheet) o) c) ≡ [] ⌝ }
     ensures { λ r. ⌜ r ≡ verdictOf (paramsFaults (moduleOf (now (sheet .entry)) o) (funcOf (sheetWords (now (sheet .entry)) o) c)) ⌝ }
     ensures { λ r. ⌜ now (work .exit) ≡ now (work .entry) ⌝ }
 {
-    let p = params_at(sheet, work, o, TypeId(c.body.sig));
+    let p = params_at(sheet, work, o, c.body.sig);
     if params_first(sheet, work, o, p, c.body.regs) {
         return check_params(sheet, work, o, c.body.params, p);
     }
@@ -66,7 +65,7 @@ pub fn check_head(sheet: &[u8], work: &mut [u32], o: Opened, c: Frame) -> Verdic
     ensures { λ r. ⌜ r ≡ verdictOf (headFaults (moduleOf (now (sheet .entry)) o) (funcOf (sheetWords (now (sheet .entry)) o) c)) ⌝ }
     ensures { λ r. ⌜ now (work .exit) ≡ now (work .entry) ⌝ }
 {
-    match check_signature(sheet, work, o, TypeId(c.body.sig)) {
+    match check_signature(sheet, work, o, c.body.sig) {
         Verdict::Holds => {}
         Verdict::Broken(k) => {
             return Verdict::Broken(k);

@@ -6,7 +6,7 @@ use mathlib.Core.Bool.{true, false}
 use native.Mathlib.Omega.{arith}
 use native.Mathlib.Numerals.{add-one}
 use lib.ListN.{length, getD, take, drop, length-map, length-take}
-use Rattle.lists.specs.Lists.{all, concatMap, isFront}
+use Rattle.lists.specs.Lists.{allOf, concatMap, isFront}
 use Rattle.lists.specs.ListLaws.{length-concatMap, map-at}
 use Rattle.lists.specs.FrontLaws.{front-long, front-next, front-differs, front-end}
 use Rattle.blocks.specs.Blocks.{words}
@@ -57,7 +57,7 @@ values-count : (b : List ℕ) (n at : ℕ) → Whole (listOf valueType (firstWor
 values-count b n at h {c} k = whole-inv (listOf valueType (firstWords b n) at) h λ vs q e.
     let z : at ≡ at + 0 = omega arith in
     k ∙ sym (firstWords-at b n at (list-within valueType b n at h)) ∙ ap (λ i. getD (firstWords b n) i 0) z
-    ∙ read-at (firstWords b n) (listOf valueType) (encodeList encodeValue) (all codedValue) (values-codes (firstWords b n)) at vs q e 0 (omega arith)
+    ∙ read-at (firstWords b n) (listOf valueType) (encodeList encodeValue) (allOf codedValue) (values-codes (firstWords b n)) at vs q e 0 (omega arith)
     ∙ ap length (sym (value-got [] e))
 
 -- ── the comparison ──

@@ -7,7 +7,7 @@ use native.Mathlib.Omega.{arith}
 use native.Mathlib.Decide.{decLt}
 use lib.Dec.{eqb, leb, ltb}
 use borrow.Author.Tests.{lt-ltb, le-ltb, le-leb, lt-leb, eq-eqb, ne-eqb}
-use Rattle.lists.specs.Lists.{any}
+use Rattle.lists.specs.Lists.{anyOf}
 use Rattle.sheet.specs.Module.{Handler}
 use Rattle.code.specs.Code.{covers}
 use Rattle.rule7_code.specs.Sweep.{reachOf, endAt}
@@ -32,7 +32,7 @@ one-covers : (b : Bool) (pc e : ℕ) → (b && ltb pc e) ≡ ltb pc (cond b e 0)
 one-covers true pc e = refl
 one-covers false pc e = sym (le-ltb pc 0 (omega arith))
 
-pub cover-reach : (pc : ℕ) (hs : List Handler) → any (covers pc) hs ≡ ltb pc (reachOf (pc + 1) hs)
+pub cover-reach : (pc : ℕ) (hs : List Handler) → anyOf (covers pc) hs ≡ ltb pc (reachOf (pc + 1) hs)
 unfolding covers reachOf
 cover-reach pc [] = sym (le-ltb pc 0 (omega arith))
 cover-reach pc (h ∷ hs) =

@@ -6,7 +6,7 @@ use mathlib.Core.Bool.{Bool}
 use native.Mathlib.Omega.{arith}
 use lib.Dec.{ltb}
 use lib.ListN.{length, getD}
-use Rattle.lists.specs.Lists.{any}
+use Rattle.lists.specs.Lists.{anyOf}
 use Rattle.blocks.specs.Frame.{firstWords}
 use Rattle.error.specs.declared.LoadError.{LoadError}
 use Rattle.error.specs.declared.Verdict.{Verdict}
@@ -74,7 +74,7 @@ module _ (b w : List ℕ) (o : Opened) (c : Frame) (x : Framed (firstWords b (o 
           let ws = firstWords b (o .layout .words) in
           let f = funcOf ws c in
           let m = moduleIn ws in
-          let a : g ≡ any (covers pc) (f .handlers) = covered ∙ ap (ltb pc) reaches ∙ sym (cover-reach pc (f .handlers)) in
+          let a : g ≡ anyOf (covers pc) (f .handlers) = covered ∙ ap (ltb pc) reaches ∙ sym (cover-reach pc (f .handlers)) in
           placed-faults (atPosition (c .func .0) pc) (instFaults m f pc (getD (f .code) pc unreachable))
           (k ∙ ap₂ (λ (q : Bool) (i : Module.Inst). verdictOf (fieldsFaults m f (row (opcode i)) i ++ ruleFaults m f q i (row (opcode i) .rule))) a (inst-value b (o .layout .words) c x pc h))
           z

@@ -7,7 +7,7 @@ use native.Mathlib.Omega.{arith}
 use lib.Dec.{eqb, ltb}
 use lib.ListN.{getD}
 use borrow.Author.Tests.{eqb-true, ltb-true}
-use Rattle.lists.specs.Lists.{all}
+use Rattle.lists.specs.Lists.{allOf}
 use Rattle.lists.specs.ListLaws.{all-at}
 use Rattle.error.specs.declared.What.{What}
 use Rattle.error.specs.declared.What.the-variants.{Functions, Constants, Registers, Imports, Globals, BranchTargets, Tables, Names, TypeRefs, Captures, CallShapes}
@@ -138,7 +138,7 @@ names definitions.wideBits r = true
 abbrev named : Row → Bool
 named r = names (r .rule) r
 
-all-named : all named rows ≡ true
+all-named : allOf named rows ≡ true
 unfolding names numberOf
 all-named = refl
 

@@ -7,7 +7,7 @@ use native.Mathlib.Omega.{arith}
 use lib.Dec.{eqb}
 use lib.ListN.{length}
 use borrow.Author.Tests.{eq-eqb, ne-eqb}
-use Rattle.lists.specs.Lists.{all}
+use Rattle.lists.specs.Lists.{allOf}
 use Rattle.reader.specs.Reader.{listOf}
 use Rattle.reader.specs.Value.{valueOf}
 use Rattle.sheet.specs.Module.{ValueType, isDyn, Module}
@@ -24,14 +24,14 @@ use Rattle.rule8_hooks.specs.Bindings.{paramsFit}
 -- ── parameters ──
 
 module _ (m : Module) (t n : ℕ) {c : ℕ} (e : c ≡ length (sigParams m t)) where
-  counts-fit : c ≡ n → all isDyn (sigParams m t) ≡ paramsFit n (sigParams m t)
+  counts-fit : c ≡ n → allOf isDyn (sigParams m t) ≡ paramsFit n (sigParams m t)
   unfolding paramsFit
-  counts-fit z = sym (ap (λ i. i && all isDyn (sigParams m t)) (eq-eqb (length (sigParams m t)) n (sym e ∙ z)))
+  counts-fit z = sym (ap (λ i. i && allOf isDyn (sigParams m t)) (eq-eqb (length (sigParams m t)) n (sym e ∙ z)))
 
   pub params-none : c ≡ n → c ≡ 0 → true ≡ paramsFit n (sigParams m t)
   params-none z y = sym (none (sigParams m t) (sym e ∙ y)) ∙ counts-fit z
     where
-      none : (vs : List ValueType) → length vs ≡ 0 → all isDyn vs ≡ true
+      none : (vs : List ValueType) → length vs ≡ 0 → allOf isDyn vs ≡ true
       none [] y = refl
       none (v ∷ vs) y = absurd (omega arith)
 
@@ -39,12 +39,12 @@ module _ (m : Module) (t n : ℕ) {c : ℕ} (e : c ≡ length (sigParams m t)) w
   params-found z = params-sig m t (omega arith)
 
   pub params-all : (ws : List ℕ) (p : ℕ) {r : Bool} → c ≡ n → valueOf [] (listOf valueType ws p) ≡ sigParams m t
-      → r ≡ all isDyn (valueOf [] (listOf valueType ws p)) → r ≡ paramsFit n (sigParams m t)
-  params-all ws p z y k = k ∙ ap (all isDyn) y ∙ counts-fit z
+      → r ≡ allOf isDyn (valueOf [] (listOf valueType ws p)) → r ≡ paramsFit n (sigParams m t)
+  params-all ws p z y k = k ∙ ap (allOf isDyn) y ∙ counts-fit z
 
   pub params-other : (c ≡ n → ⊥) → false ≡ paramsFit n (sigParams m t)
   unfolding paramsFit
-  params-other z = sym (ap (λ i. i && all isDyn (sigParams m t)) (ap (λ l. eqb l n) (sym e) ∙ ne-eqb c n z))
+  params-other z = sym (ap (λ i. i && allOf isDyn (sigParams m t)) (ap (λ l. eqb l n) (sym e) ∙ ne-eqb c n z))
 
 -- ── the result ──
 

@@ -4,7 +4,7 @@ use mathlib.Core.List.{List}
 use mathlib.Core.Bool.{Bool, _&&_}
 use lib.Dec.{eqb}
 use lib.ListN.{length}
-use Rattle.lists.specs.Lists.{all}
+use Rattle.lists.specs.Lists.{allOf}
 use Rattle.sheet.specs.Module.{ValueType, isDyn, Hook, Module}
 use Rattle.imports.specs.Params.{sigParams, sigResults}
 use Rattle.code.specs.Callee.{funcAt, importAt, noCaptures}
@@ -16,7 +16,7 @@ noHook = record { hook = 0; kind = 0; index = 0 }
 
 -- so many, all dyn
 unfoldable pub paramsFit : ℕ → List ValueType → Bool
-paramsFit n ps = eqb (length ps) n && all isDyn ps
+paramsFit n ps = eqb (length ps) n && allOf isDyn ps
 
 -- function f, import i may be bound to hook h
 unfoldable pub functionFits : Module → ℕ → ℕ → Bool

@@ -82,7 +82,7 @@ module _ {A : Type 0} (f : Reader A) (ws : List ℕ) {p p₁ q r : ℕ} {a : A} 
 -- a body of two halves, the signature before them
 abbrev pub bodyOf : ℕ → ℕ → Front → Back → Body
 bodyOf s at x y = record {
-  sig = s;
+  sig = record { 0 = s };
   regs = at + 1;
   params = x .params;
   shapes = x .shapes;

@@ -18,7 +18,7 @@ use Rattle.rule_bodies.specs.declared.Back.{Back}
 
 -- each part of f stands between its position and the next part's; the code ends at `end`
 pub record Placed (ws : List ℕ) (f : Func) (r : Body) : Type 0 where
-  pub sig : r .sig ≡ f .sig
+  pub sig : r .sig .0 ≡ f .sig
   pub regs : listOf valueType ws (r .regs) ≡ got (f .regs) (r .params)
   pub params : paramList ws (r .params) ≡ got (f .params) (r .shapes)
   pub shapes : listOf (listOf argOf) ws (r .shapes) ≡ got (f .shapes) (r .captures)

@@ -11,6 +11,7 @@ ghost use Rattle.rule_bodies.specs.Bodies.{Placed, endOf, Fronts, Backs,
 ghost use Rattle.open_sheet.specs.Ready.{sheetWords, moduleOf};
 use blocks::word;
 use error::FuncId;
+use error::TypeId;
 use open_funcs::skip_shapes;
 use open_funcs::skip_switches;
 use open_parts::imports::skip_params;
@@ -22,7 +23,7 @@ use reader::skip_records;
 
 // The signature, and where the other nine stand: lists at their counts, the parameter list at its 0 or 1.
 pub struct Body {
-    pub sig: u32,
+    pub sig: TypeId,
     pub regs: usize,
     pub params: usize,
     pub shapes: usize,
@@ -98,7 +99,7 @@ pub fn locate_body(sheet: &[u8], n: usize, at: usize) -> Body
     let front = locate_front(sheet, n, at);
     let back = locate_back(sheet, n, front.names);
     Body {
-        sig: word(sheet, at),
+        sig: TypeId(word(sheet, at)),
         regs: at + 1,
         params: front.params,
         shapes: front.shapes,

@@ -8,7 +8,7 @@ use lib.Dec.{eqb, ltb}
 use lib.ListN.{length, getD, set, length-set}
 use lib.Seq.{getD-set-other, getD-set-same, ext-getD}
 use borrow.Author.Tests.{ltb-true, eqb-true, eqb-false}
-use Rattle.lists.specs.Lists.{all, any, contains, distinct}
+use Rattle.lists.specs.Lists.{allOf, anyOf, contains, distinct}
 use Rattle.lists.specs.ListLaws.{both, and-first, and-second}
 use Rattle.rule_list_members.specs.declared.ListKind.{ListKind}
 use Rattle.rule_list_members.specs.declared.Name.{Name}
@@ -19,7 +19,7 @@ use Rattle.rule_list_marks.specs.Marks.{named, namesOf, namesDistinct, p
 -- ── over a list of names ──
 
 abbrev pub below : ℕ → List ℕ → Bool
-below n xs = all (λ s. ltb s n) xs
+below n xs = allOf (λ s. ltb s n) xs
 
 abbrev pub putAll : ℕ → ℕ → List ℕ → List ℕ → List ℕ
 putAll v base w [] = w
@@ -35,11 +35,11 @@ module _ (v base : ℕ) where
   length-putAll w (x ∷ xs) = length-putAll (set w (base + x) v) xs ∙ length-set w (base + x) v
 
   -- a mark of one of the names, or another word
-  pub at-putAll : (n : ℕ) (w xs : List ℕ) (i : ℕ) → base + n ≤ length w → below n xs ≡ true → getD (putAll v base w xs) i 0 ≡ cond (any (λ s. eqb (base + s) i) xs) v (getD w i 0)
+  pub at-putAll : (n : ℕ) (w xs : List ℕ) (i : ℕ) → base + n ≤ length w → below n xs ≡ true → getD (putAll v base w xs) i 0 ≡ cond (anyOf (λ s. eqb (base + s) i) xs) v (getD w i 0)
   at-putAll n w [] i h b = refl
   at-putAll n w (x ∷ xs) i h b =
       at-putAll n (set w (base + x) v) xs i (omega (arith, length-set w (base + x) v)) (and-second (ltb x n) (below n xs) b)
-      ∙ go (eqb (base + x) i) refl (any (λ s. eqb (base + s) i) xs)
+      ∙ go (eqb (base + x) i) refl (anyOf (λ s. eqb (base + s) i) xs)
     where
       go : (t : Bool) → eqb (base + x) i ≡ t → (u : Bool) → cond u v (getD (set w (base + x) v) i 0) ≡ cond (t || u) v (getD w i 0)
       go t e true = cond-same t
@@ -60,9 +60,9 @@ abbrev unmarked : ℕ → List ℕ → ℕ → Bool
 unmarked base w s = not (eqb (getD w (base + s) 0) 1)
 
 module _ (base n : ℕ) where
-  others : (w : List ℕ) (x : ℕ) (xs : List ℕ) → base + n ≤ length w → x < n → all (unmarked base (set w (base + x) 1)) xs ≡ (not (contains xs x) && all (unmarked base w) xs)
+  others : (w : List ℕ) (x : ℕ) (xs : List ℕ) → base + n ≤ length w → x < n → allOf (unmarked base (set w (base + x) 1)) xs ≡ (not (contains xs x) && allOf (unmarked base w) xs)
   others w x [] h l = refl
-  others w x (y ∷ ys) h l = ap₂ _&&_ (here (eqb x y) refl) (others w x ys h l) ∙ mix (eqb x y) (contains ys x) (unmarked base w y) (all (unmarked base w) ys)
+  others w x (y ∷ ys) h l = ap₂ _&&_ (here (eqb x y) refl) (others w x ys h l) ∙ mix (eqb x y) (contains ys x) (unmarked base w y) (allOf (unmarked base w) ys)
     where
       here : (t : Bool) → eqb x y ≡ t → unmarked base (set w (base + x) 1) y ≡ (not t && unmarked base w y)
       here true e =
@@ -78,12 +78,12 @@ module _ (base n : ℕ) where
       mix false true false a = refl
       mix false false false a = refl
 
-  new-all : (w xs : List ℕ) → base + n ≤ length w → below n xs ≡ true → newAll 1 base w xs ≡ (all (unmarked base w) xs && distinct xs)
+  new-all : (w xs : List ℕ) → base + n ≤ length w → below n xs ≡ true → newAll 1 base w xs ≡ (allOf (unmarked base w) xs && distinct xs)
   new-all w [] h b = refl
   new-all w (x ∷ xs) h b =
       ap (λ y. unmarked base w x && y) (new-all (set w (base + x) 1) xs (omega (arith, length-set w (base + x) 1)) (and-second (ltb x n) (below n xs) b)
       ∙ ap (λ y. y && distinct xs) (others w x xs h (ltb-true x n (and-first (ltb x n) (below n xs) b))))
-      ∙ mix (unmarked base w x) (contains xs x) (all (unmarked base w) xs) (distinct xs)
+      ∙ mix (unmarked base w x) (contains xs x) (allOf (unmarked base w) xs) (distinct xs)
     where
       mix : (u c a d : Bool) → (u && ((not c && a) && d)) ≡ ((u && a) && (not c && d))
       mix false c a d = refl
@@ -96,7 +96,7 @@ module _ (base n : ℕ) where
       mix true false false d = refl
 
   module _ (w : List ℕ) (h : base + n ≤ length w) (zeros : (s : ℕ) → s < n → getD w (base + s) 0 ≡ 0) where
-    all-unmarked : (xs : List ℕ) → below n xs ≡ true → all (unmarked base w) xs ≡ true
+    all-unmarked : (xs : List ℕ) → below n xs ≡ true → allOf (unmarked base w) xs ≡ true
     all-unmarked [] b = refl
     all-unmarked (x ∷ xs) b =
         both (ap (λ k. not (eqb k 1)) (zeros x (ltb-true x n (and-first (ltb x n) (below n xs) b)))) (all-unmarked xs (and-second (ltb x n) (below n xs) b))
@@ -106,11 +106,11 @@ module _ (base n : ℕ) where
 
     -- ── set and cleared ──
 
-    zero-at : (xs : List ℕ) (i : ℕ) → below n xs ≡ true → any (λ s. eqb (base + s) i) xs ≡ true → 0 ≡ getD w i 0
+    zero-at : (xs : List ℕ) (i : ℕ) → below n xs ≡ true → anyOf (λ s. eqb (base + s) i) xs ≡ true → 0 ≡ getD w i 0
     zero-at [] i b e = let z : _≡_ {A = ℕ} 0 1 = cc in absurd (omega arith)
     zero-at (x ∷ xs) i b e = go (eqb (base + x) i) refl e (λ f. zero-at xs i (and-second (ltb x n) (below n xs) b) f)
       where
-        go : (t : Bool) → eqb (base + x) i ≡ t → (t || any (λ s. eqb (base + s) i) xs) ≡ true → (any (λ s. eqb (base + s) i) xs ≡ true → 0 ≡ getD w i 0) → 0 ≡ getD w i 0
+        go : (t : Bool) → eqb (base + x) i ≡ t → (t || anyOf (λ s. eqb (base + s) i) xs) ≡ true → (anyOf (λ s. eqb (base + s) i) xs ≡ true → 0 ≡ getD w i 0) → 0 ≡ getD w i 0
         go true f e ih = sym (ap (λ k. getD w k 0) (sym (eqb-true (base + x) i f)) ∙ zeros x (ltb-true x n (and-first (ltb x n) (below n xs) b)))
         go false f e ih = ih e
 
@@ -119,10 +119,10 @@ module _ (base n : ℕ) where
         let l : length (putAll 0 base (putAll 1 base w xs) xs) ≡ length w = length-putAll 0 base (putAll 1 base w xs) xs ∙ length-putAll 1 base w xs in
         ext-getD 0 (putAll 0 base (putAll 1 base w xs) xs) w l λ i k.
         at-putAll 0 base n (putAll 1 base w xs) xs i (omega (arith, length-putAll 1 base w xs)) b
-        ∙ ap (λ y. cond (any (λ s. eqb (base + s) i) xs) 0 y) (at-putAll 1 base n w xs i h b)
-        ∙ go i (any (λ s. eqb (base + s) i) xs) refl
+        ∙ ap (λ y. cond (anyOf (λ s. eqb (base + s) i) xs) 0 y) (at-putAll 1 base n w xs i h b)
+        ∙ go i (anyOf (λ s. eqb (base + s) i) xs) refl
       where
-        go : (i : ℕ) (t : Bool) → any (λ s. eqb (base + s) i) xs ≡ t → cond t 0 (cond t 1 (getD w i 0)) ≡ getD w i 0
+        go : (i : ℕ) (t : Bool) → anyOf (λ s. eqb (base + s) i) xs ≡ t → cond t 0 (cond t 1 (getD w i 0)) ≡ getD w i 0
         go i true e = zero-at xs i b e
         go i false e = refl
 

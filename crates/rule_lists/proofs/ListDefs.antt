@@ -8,7 +8,7 @@ use native.Mathlib.Omega.{arith}
 use lib.Dec.{eqb, ltb, leb}
 use lib.ListN.{length, getD, length-map}
 use borrow.Author.Tests.{lt-ltb, le-leb, lt-leb, eq-eqb, ne-eqb, eqb-true, eqb-false, ltb-true, ltb-false}
-use Rattle.lists.specs.Lists.{all, any, keep, contains, distinct, allPairs}
+use Rattle.lists.specs.Lists.{allOf, anyOf, keep, contains, distinct, allPairs}
 use Rattle.sheet.specs.Module.{Param, Arg, Module}
 use Rattle.imports.specs.Params.{byReference, optional, goodFlags, optionalLast, givenNames, validParams, fitsOne, fits}
 use Rattle.funcs.specs.Shapes.{goodKind, positional, isNamed, namedLast, namesRead, validShape}
@@ -31,7 +31,7 @@ args xs = List.map toArg xs
 -- ── the tests apart ──
 
 abbrev listed : ListKind → List (ℕ × ℕ) → Bool
-listed k xs = all (λ x. isListed k (x .0)) xs
+listed k xs = allOf (λ x. isListed k (x .0)) xs
 
 abbrev ordered : ListKind → Bool → List (ℕ × ℕ) → Bool
 ordered k late [] = true
@@ -55,25 +55,25 @@ apart k n late (x ∷ xs) =
 
 -- ── listed ──
 
-listed-params : (xs : List (ℕ × ℕ)) → listed Params xs ≡ all goodFlags (params xs)
+listed-params : (xs : List (ℕ × ℕ)) → listed Params xs ≡ allOf goodFlags (params xs)
 unfolding isListed goodFlags
 listed-params [] = refl
 listed-params (x ∷ xs) = ap (λ y. ltb (x .0) 4 && y) (listed-params xs)
 
-listed-args : (xs : List (ℕ × ℕ)) → listed Args xs ≡ all goodKind (args xs)
+listed-args : (xs : List (ℕ × ℕ)) → listed Args xs ≡ allOf goodKind (args xs)
 unfolding isListed goodKind
 listed-args [] = refl
 listed-args (x ∷ xs) = ap (λ y. ltb (x .0) 3 && y) (listed-args xs)
 
 -- ── ordered ──
 
-ordered-params : (late : Bool) (xs : List (ℕ × ℕ)) → ordered Params late xs ≡ ((not late || all optional (params xs)) && optionalLast (params xs))
+ordered-params : (late : Bool) (xs : List (ℕ × ℕ)) → ordered Params late xs ≡ ((not late || allOf optional (params xs)) && optionalLast (params xs))
 unfolding optionalLast isInOrder lateAfter isLate isEarly optional
 ordered-params true [] = refl
 ordered-params false [] = refl
 ordered-params late (x ∷ xs) =
     let o = eqb (x .0 / 2 % 2) 1 in
-    ap (λ y. not (late && not o) && y) (ordered-params (late || o) xs) ∙ mix late o (all optional (params xs)) (optionalLast (params xs))
+    ap (λ y. not (late && not o) && y) (ordered-params (late || o) xs) ∙ mix late o (allOf optional (params xs)) (optionalLast (params xs))
   where
     mix : (l o a b : Bool) → (not (l && not o) && ((not (l || o) || a) && b)) ≡ ((not l || (o && a)) && ((not o || a) && b))
     mix true true true b = refl
@@ -82,14 +82,14 @@ ordered-params late (x ∷ xs) =
     mix false true a b = refl
     mix false false a b = refl
 
-ordered-args : (late : Bool) (xs : List (ℕ × ℕ)) → ordered Args late xs ≡ ((not late || not (any positional (args xs))) && namedLast (args xs))
+ordered-args : (late : Bool) (xs : List (ℕ × ℕ)) → ordered Args late xs ≡ ((not late || not (anyOf positional (args xs))) && namedLast (args xs))
 unfolding namedLast isInOrder lateAfter isLate isEarly positional isNamed
 ordered-args true [] = refl
 ordered-args false [] = refl
 ordered-args late (x ∷ xs) =
     let p = eqb (x .0) 0 in
     let n = eqb (x .0) 1 in
-    ap (λ y. not (late && p) && y) (ordered-args (late || n) xs) ∙ mix late p n (any positional (args xs)) (namedLast (args xs))
+    ap (λ y. not (late && p) && y) (ordered-args (late || n) xs) ∙ mix late p n (anyOf positional (args xs)) (namedLast (args xs))
   where
     mix : (l p n a b : Bool) → (not (l && p) && ((not (l || n) || not a) && b)) ≡ ((not l || not (p || a)) && (not (n && a) && b))
     mix true true n a b = refl
@@ -145,7 +145,7 @@ read-names (x ∷ xs) = go (eqb (x .0) 1) (read-names xs)
     go true ih = unfold namesRead named in ap (λ l. x .1 ∷ l) ih
     go false ih = unfold namesRead named in ih
 
-in-params : (n : ℕ) (xs : List (ℕ × ℕ)) → namesIn Params n xs ≡ all (λ p. leb (p .name+) n) (params xs)
+in-params : (n : ℕ) (xs : List (ℕ × ℕ)) → namesIn Params n xs ≡ allOf (λ p. leb (p .name+) n) (params xs)
 unfolding namesIn nameOf
 in-params n [] = refl
 in-params n (x ∷ xs) = ap₂ _&&_ (go (x .1)) (in-params n xs)
@@ -166,7 +166,7 @@ pub valid-args : (m : Module) (xs : List (ℕ × ℕ)) → validMembers Args (le
 unfolding validMembers validShape namesDistinct
 valid-args m xs =
     ap₂ _&&_ (apart Args (length (m .strings)) false xs ∙ ap₂ _&&_ (listed-args xs) (ap₂ _&&_ (ordered-args false xs) (in-names Args (length (m .strings)) xs ∙ ap (below (length (m .strings))) (read-names xs)))) (ap distinct (read-names xs))
-    ∙ mix (all goodKind (args xs)) (namedLast (args xs)) (below (length (m .strings)) (namesRead (args xs))) (distinct (namesRead (args xs)))
+    ∙ mix (allOf goodKind (args xs)) (namedLast (args xs)) (below (length (m .strings)) (namesRead (args xs))) (distinct (namesRead (args xs)))
   where
     mix : (a b c d : Bool) → ((a && (b && c)) && d) ≡ (((a && b) && d) && c)
     mix false b c d = refl
@@ -184,12 +184,12 @@ pairs-length ws zero p = refl
 pairs-length ws (suc n) p = ap suc (pairs-length ws n (p + 2))
 
 fit-pairs : (m : Module) (ws : List ℕ) (n p q : ℕ) →
-    allPairs (fitsOne m) (params (pairsAt ws n p)) (valuesAt ws n q) ≡ (referencesFit m ws n p q && all (λ x. leb (x .name+) (length (m .strings))) (params (pairsAt ws n p)))
+    allPairs (fitsOne m) (params (pairsAt ws n p)) (valuesAt ws n q) ≡ (referencesFit m ws n p q && allOf (λ x. leb (x .name+) (length (m .strings))) (params (pairsAt ws n p)))
 unfolding pairsAt referencesFit referenceFits fitsOne byReference
 fit-pairs m ws zero p q = refl
 fit-pairs m ws (suc n) p q =
     ap (λ y. fitsOne m (toParam (getD ws p 0, getD ws (p + 1) 0)) (valueFrom (getD ws q 0)) && y) (fit-pairs m ws n (p + 2) (q + 1))
-    ∙ mix (referenceFits m (getD ws p 0) (getD ws q 0)) (leb (getD ws (p + 1) 0) (length (m .strings))) (referencesFit m ws n (p + 2) (q + 1)) (all (λ x. leb (x .name+) (length (m .strings))) (params (pairsAt ws n (p + 2))))
+    ∙ mix (referenceFits m (getD ws p 0) (getD ws q 0)) (leb (getD ws (p + 1) 0) (length (m .strings))) (referencesFit m ws n (p + 2) (q + 1)) (allOf (λ x. leb (x .name+) (length (m .strings))) (params (pairsAt ws n (p + 2))))
   where
     mix : (a b c d : Bool) → ((a && b) && (c && d)) ≡ ((a && c) && (b && d))
     mix false b c d = refl
@@ -205,8 +205,8 @@ valid-params m ws n p q =
     let xs = pairsAt ws n p in
     let e : eqb (length (params xs)) (length (valuesAt ws n q)) ≡ true =
     eq-eqb (length (params xs)) (length (valuesAt ws n q)) (length-map xs toParam ∙ pairs-length ws n p ∙ sym (length-valuesAt ws n q)) in
-    ap₂ (λ u v. ((all goodFlags (params xs) && optionalLast (params xs)) && distinct (givenNames (params xs))) && (u && v)) e (fit-pairs m ws n p q)
-    ∙ mix (all goodFlags (params xs)) (optionalLast (params xs)) (distinct (givenNames (params xs))) (referencesFit m ws n p q) (all (λ x. leb (x .name+) (length (m .strings))) (params xs))
+    ap₂ (λ u v. ((allOf goodFlags (params xs) && optionalLast (params xs)) && distinct (givenNames (params xs))) && (u && v)) e (fit-pairs m ws n p q)
+    ∙ mix (allOf goodFlags (params xs)) (optionalLast (params xs)) (distinct (givenNames (params xs))) (referencesFit m ws n p q) (allOf (λ x. leb (x .name+) (length (m .strings))) (params xs))
     ∙ sym (ap (λ y. referencesFit m ws n p q && y) (ap₂ _&&_ (apart Params (length (m .strings)) false xs ∙ ap₂ _&&_ (listed-params xs) (ap₂ _&&_ (ordered-params false xs) (in-params (length (m .strings)) xs))) (names-params xs)))
   where
     mix : (a b d r c : Bool) → (((a && b) && d) && (true && (r && c))) ≡ (r && ((a && (b && c)) && d))

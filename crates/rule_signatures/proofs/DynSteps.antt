@@ -7,7 +7,7 @@ use native.Mathlib.Omega.{arith}
 use lib.Dec.{eqb}
 use lib.ListN.{length, getD}
 use borrow.Author.Tests.{eq-eqb, eqb-true}
-use Rattle.lists.specs.Lists.{all}
+use Rattle.lists.specs.Lists.{allOf}
 use Rattle.blocks.specs.Blocks.{words}
 use Rattle.blocks.specs.Frame.{firstWords}
 use Rattle.blocks.specs.FirstWords.{length-firstWords, firstWords-at}
@@ -81,16 +81,18 @@ module _ (b : List ℕ) (n at : ℕ) (h : Whole (listOf valueType (firstWords b 
 -- left are ahead, from q on, and all before are dyn
 pub record Dyns (ws : List ℕ) (at left q : ℕ) : Type 0 where
   pub whole : Whole (many left valueType ws q)
-  pub same : all isDyn (valueOf [] (listOf valueType ws at)) ≡ all isDyn (valueOf [] (many left valueType ws q))
+  pub same : allOf isDyn (valueOf [] (listOf valueType ws at)) ≡ allOf isDyn (valueOf [] (many left valueType ws q))
 
 module _ (b : List ℕ) (n at : ℕ) where
   pub dyns-start : {c : ℕ} → Whole (listOf valueType (firstWords b n) at) → c ≡ getD (words b) at 0 → Dyns (firstWords b n) at c (at + 1)
-  dyns-start h e = record { whole = list-whole valueType b n at h e; same = ap (all isDyn) (list-value valueType b n at [] h e) }
+  dyns-start h e = record { whole = list-whole valueType b n at h e; same = ap (allOf isDyn) (list-value valueType b n at [] h e) }
 
   module _ (left q : ℕ) (x : Dyns (firstWords b n) at left q) where
-    pub dyns-end : left ≤ 0 → true ≡ all isDyn (valueOf [] (listOf valueType (firstWords b n) at))
+    pub dyns-end : left ≤ 0 → true ≡ allOf isDyn (valueOf [] (listOf valueType (firstWords b n) at))
     unfolding many valueOf
-    dyns-end h = let z : left ≡ 0 = omega arith in sym (x .same ∙ ap (λ k. all isDyn (valueOf [] (many k valueType (firstWords b n) q))) z)
+    dyns-end h =
+        let z : left ≡ 0 = omega arith in
+        sym (x .same ∙ ap (λ k. allOf isDyn (valueOf [] (many k valueType (firstWords b n) q))) z)
 
     module _ (h : 0 < left) where
       ahead : {C : Type 0} → ((v : ValueType) (q₂ : ℕ) (vs : List ValueType) (e : ℕ) → valueType (firstWords b n) q ≡ got v q₂
@@ -108,13 +110,14 @@ module _ (b : List ℕ) (n at : ℕ) where
             let m : many (left - 1) valueType (firstWords b n) (q + 1) ≡ got vs e = ap (many (left - 1) valueType (firstWords b n)) (sym y) ∙ e₂ in
             record {
               whole = got-whole m;
-              same = x .same ∙ ap (all isDyn) (value-got [] e₃) ∙ ap (λ i. i && all isDyn vs) d ∙ ap (all isDyn) (sym (value-got [] m));
+              same = x .same ∙ ap (allOf isDyn) (value-got [] e₃) ∙ ap (λ i. i && allOf isDyn vs) d
+                  ∙ ap (allOf isDyn) (sym (value-got [] m));
             }
 
-        pub dyns-stop : (w ≡ 12 → ⊥) → false ≡ all isDyn (valueOf [] (listOf valueType (firstWords b n) at))
+        pub dyns-stop : (w ≡ 12 → ⊥) → false ≡ allOf isDyn (valueOf [] (listOf valueType (firstWords b n) at))
         dyns-stop z = ahead λ v q₂ vs e e₁ e₂ e₃.
             let d : isDyn v ≡ false = sym (value-dyn b n q e₁) ∙ ap (λ i. eqb i 12) (sym k) ∙ not-dyn (eqb w 12) refl in
-            sym (x .same ∙ ap (all isDyn) (value-got [] e₃) ∙ ap (λ i. i && all isDyn vs) d)
+            sym (x .same ∙ ap (allOf isDyn) (value-got [] e₃) ∙ ap (λ i. i && allOf isDyn vs) d)
           where
             not-dyn : (i : Bool) → eqb w 12 ≡ i → eqb w 12 ≡ false
             not-dyn true e = absurd (z (eqb-true w 12 e))

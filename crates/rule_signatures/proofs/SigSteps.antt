@@ -8,7 +8,7 @@ use native.Mathlib.Decide.{decLt}
 use lib.Dec.{eqb, leb}
 use lib.ListN.{length, getD}
 use borrow.Author.Tests.{eq-eqb, eqb-true}
-use Rattle.lists.specs.Lists.{all}
+use Rattle.lists.specs.Lists.{allOf}
 use Rattle.lists.specs.ListLaws.{length-concatMap}
 use Rattle.blocks.specs.Blocks.{words}
 use Rattle.blocks.specs.Frame.{firstWords}
@@ -53,7 +53,7 @@ module _ (b : List ℕ) (n at : ℕ) {vs : List ValueType} {q : ℕ} (e : listOf
       let h : at < n = list-within valueType b n at (got-whole e) in
       let z : at ≡ at + 0 = omega arith in
       sym (firstWords-at b n at h) ∙ ap (λ k. getD (firstWords b n) k 0) z
-      ∙ read-at (firstWords b n) (listOf valueType) (encodeList encodeValue) (all codedValue) (values-codes (firstWords b n)) at vs q e 0 (omega arith)
+      ∙ read-at (firstWords b n) (listOf valueType) (encodeList encodeValue) (allOf codedValue) (values-codes (firstWords b n)) at vs q e 0 (omega arith)
 
 -- ── a type by its first word ──
 

@@ -2,7 +2,7 @@
 ghost use mathlib.Core.Path.{_≡_};
 ghost use mathlib.Core.List.{[]};
 ghost use lib.ListN.{length};
-ghost use Rattle.lists.specs.Lists.{all};
+ghost use Rattle.lists.specs.Lists.{allOf};
 ghost use Rattle.blocks.specs.Frame.{firstWords};
 ghost use Rattle.error.specs.Verdict.{verdictOf};
 ghost use Rattle.reader.specs.Reader.{listOf};
@@ -126,7 +126,7 @@ pub fn is_one_dyn(sheet: &[u8], n: usize, at: usize) -> bool
 // Every value type of the list is dyn.
 pub fn all_dyn(sheet: &[u8], n: usize, at: usize) -> bool
     requires { ⌜ Whole (listOf valueType (firstWords (now sheet) n) at) ⌝ }
-    ensures { λ r. ⌜ r ≡ all isDyn (valueOf [] (listOf valueType (firstWords (now (sheet .entry)) n) at)) ⌝ }
+    ensures { λ r. ⌜ r ≡ allOf isDyn (valueOf [] (listOf valueType (firstWords (now (sheet .entry)) n) at)) ⌝ }
 {
     let mut left = word(sheet, at);
     let mut p = at + 1;

@@ -6,7 +6,7 @@ use mathlib.Core.Bool.{cond, _&&_}
 use mathlib.Core.Option.{none, some}
 use lib.Dec.{ltb}
 use lib.ListN.{getD}
-use Rattle.lists.specs.Lists.{all}
+use Rattle.lists.specs.Lists.{allOf}
 use Rattle.lists.specs.ListLaws.{both, and-first, and-second}
 use Rattle.reader.specs.Reader.{got, pure, fail, listOf, encodeList}
 use Rattle.reader.specs.ReaderLaws.{Stands, join, Found, Codes, free, seq, next, landed, final, not-broken, chosen, word-codes, list-codes, free-codes, words-codes}
@@ -133,7 +133,7 @@ module _ (ws : List ℕ) where
   pub switches-codes : Codes ws (listOf switchOf) (encodeList encodeSwitch) free
   switches-codes = free-codes ws switchOf encodeSwitch switch-codes
 
-  pub insts-codes : Codes ws (listOf instOf) (encodeList encodeInst) (all codedInst)
+  pub insts-codes : Codes ws (listOf instOf) (encodeList encodeInst) (allOf codedInst)
   insts-codes = list-codes ws instOf encodeInst codedInst inst-codes
 
   pub function-codes : Codes ws functionOf encodeFunc codedFunc
@@ -155,9 +155,9 @@ module _ (ws : List ℕ) where
             (join ws s₁ (join ws (join ws (join ws (join ws (join ws (join ws (join ws (join ws s₂ s₃) s₄) s₅) s₆) s₇) s₈) s₉) s₁₀))
             (both (both o₂ o₅) o₁₀);
         reads = λ p a q w.
-            let regs = all codedValue (a .regs) in
-            let captures = all codedValue (a .captures) in
-            let code = all codedInst (a .code) in
+            let regs = allOf codedValue (a .regs) in
+            let captures = allOf codedValue (a .captures) in
+            let code = allOf codedInst (a .code) in
             let o = and-first (regs && captures) code (w .fine) in
             next ws (word-codes ws) (a .sig) _ _ refl (simp append-assoc at (w .stands)) λ p₁ s.
             next ws (values-codes ws) (a .regs) _ _ (and-first regs captures o) s λ p₂ s.

@@ -4,7 +4,7 @@ use mathlib.Core.Path.{_≡_, refl}
 use mathlib.Core.List.{List, [], _++_, append-assoc}
 use mathlib.Core.Bool.{true, _&&_}
 use lib.Dec.{ltb}
-use Rattle.lists.specs.Lists.{all}
+use Rattle.lists.specs.Lists.{allOf}
 use Rattle.lists.specs.ListLaws.{both, and-first, and-second}
 use Rattle.blocks.specs.ByteLaws.{isWord}
 use Rattle.utf8.specs.Utf8.{wellFormed}
@@ -54,7 +54,7 @@ module _ (ws : List ℕ) where
 
   -- ── the sections ──
 
-  pub types-codes : Codes ws (listOf typeDef) (encodeList encodeType) (all codedType)
+  pub types-codes : Codes ws (listOf typeDef) (encodeList encodeType) (allOf codedType)
   types-codes = list-codes ws typeDef encodeType codedType (type-codes ws)
 
   pub consts-codes : Codes ws (listOf constOf) (encodeList encodeConst) free
@@ -63,22 +63,22 @@ module _ (ws : List ℕ) where
   pub imports-codes : Codes ws (listOf importOf) (encodeList encodeImport) free
   imports-codes = free-codes ws importOf encodeImport (import-codes ws)
 
-  pub globals-codes : Codes ws (listOf globalOf) (encodeList encodeGlobal) (all codedGlobal)
+  pub globals-codes : Codes ws (listOf globalOf) (encodeList encodeGlobal) (allOf codedGlobal)
   globals-codes = list-codes ws globalOf encodeGlobal codedGlobal (global-codes ws)
 
-  pub functions-codes : Codes ws (listOf functionOf) (encodeList encodeFunc) (all codedFunc)
+  pub functions-codes : Codes ws (listOf functionOf) (encodeList encodeFunc) (allOf codedFunc)
   functions-codes = list-codes ws functionOf encodeFunc codedFunc (function-codes ws)
 
-  pub hooks-codes : Codes ws (listOf hookOf) (encodeList encodeHook) (all codedHook)
+  pub hooks-codes : Codes ws (listOf hookOf) (encodeList encodeHook) (allOf codedHook)
   hooks-codes = list-codes ws hookOf encodeHook codedHook hook-codes
 
-  pub exports-codes : Codes ws (listOf exportOf) (encodeList encodeExport) (all codedExport)
+  pub exports-codes : Codes ws (listOf exportOf) (encodeList encodeExport) (allOf codedExport)
   exports-codes = list-codes ws exportOf encodeExport codedExport export-codes
 
 -- ── the module ──
 
-module _ (ws : List ℕ) (words : all isWord ws ≡ true) where
-  pub strings-codes : Codes ws (listOf string) (encodeList encodeString) (all wellFormed)
+module _ (ws : List ℕ) (words : allOf isWord ws ≡ true) where
+  pub strings-codes : Codes ws (listOf string) (encodeList encodeString) (allOf wellFormed)
   strings-codes = list-codes ws string encodeString wellFormed (string-codes ws words)
 
   pub module-codes : Codes ws moduleOf encode codedModule
@@ -99,12 +99,12 @@ module _ (ws : List ℕ) (words : all isWord ws ≡ true) where
             (join ws (join ws (join ws (join ws (join ws (join ws (join ws s₁ s₂) s₃) s₄) s₅) s₆) s₇) (join ws s₈ s₉))
             (both (both (both (both (both o₁ o₂) o₅) o₆) o₇) o₉);
         reads = λ p a q w.
-            let b₁ = all wellFormed (a .strings) in
-            let b₂ = all codedType (a .types) in
-            let b₃ = all codedGlobal (a .globals) in
-            let b₄ = all codedFunc (a .funcs) in
-            let b₅ = all codedHook (a .hooks) in
-            let b₆ = all codedExport (a .exports) in
+            let b₁ = allOf wellFormed (a .strings) in
+            let b₂ = allOf codedType (a .types) in
+            let b₃ = allOf codedGlobal (a .globals) in
+            let b₄ = allOf codedFunc (a .funcs) in
+            let b₅ = allOf codedHook (a .hooks) in
+            let b₆ = allOf codedExport (a .exports) in
             let o₅ = and-first (b₁ && b₂ && b₃ && b₄ && b₅) b₆ (w .fine) in
             let o₄ = and-first (b₁ && b₂ && b₃ && b₄) b₅ o₅ in
             let o₃ = and-first (b₁ && b₂ && b₃) b₄ o₄ in

@@ -7,7 +7,7 @@ use native.Mathlib.Omega.{arith}
 use lib.Dec.{eqb, ltb}
 use lib.ListN.{getD}
 use borrow.Author.Tests.{le-ltb, ltb-false, eqb-true}
-use Rattle.lists.specs.Lists.{all}
+use Rattle.lists.specs.Lists.{allOf}
 use Rattle.lists.specs.ListLaws.{both, and-first, and-second}
 use Rattle.reader.specs.Text.{string}
 use Rattle.reader.specs.Reader.{got, pure, fail, listOf, encodeList}
@@ -61,10 +61,10 @@ module _ (ws : List ℕ) where
         reads = λ p a q w. next ws (word-codes ws) (a .name) _ _ refl (w .stands) λ p₁ s. final ws (word-codes ws) (a .func) _ refl s;
       }
 
-  pub values-codes : Codes ws (listOf valueType) (encodeList encodeValue) (all codedValue)
+  pub values-codes : Codes ws (listOf valueType) (encodeList encodeValue) (allOf codedValue)
   values-codes = list-codes ws valueType encodeValue codedValue value-codes
 
-  pub fields-codes : Codes ws (listOf fieldOf) (encodeList encodeField) (all codedField)
+  pub fields-codes : Codes ws (listOf fieldOf) (encodeList encodeField) (allOf codedField)
   fields-codes = list-codes ws fieldOf encodeField codedField field-codes
 
   pub methods-codes : Codes ws (listOf methodOf) (encodeList encodeMethod) free
@@ -94,8 +94,8 @@ module _ (ws : List ℕ) where
   body-reads : (a : TypeDef) (p q : ℕ) → codedType a ≡ true → Stands ws p (encodeBody a) q → getD typeBodies (kindWord a) fail ws p ≡ got a q
   unfolding funcType structType ofOne ofTwo encodeBody encodeStruct codedType kindWord
   body-reads (func d) p q o s =
-      next ws values-codes (d .params) _ _ (and-first (all codedValue (d .params)) (all codedValue (d .results)) o) s λ p₁ s.
-      final ws values-codes (d .results) _ (and-second (all codedValue (d .params)) (all codedValue (d .results)) o) s
+      next ws values-codes (d .params) _ _ (and-first (allOf codedValue (d .params)) (allOf codedValue (d .results)) o) s λ p₁ s.
+      final ws values-codes (d .results) _ (and-second (allOf codedValue (d .params)) (allOf codedValue (d .results)) o) s
   body-reads (struct d) p q o s =
       next ws (word-codes ws) (d .name) _ _ refl s λ p₁ s.
       next ws (word-codes ws) (d .parent+) _ _ refl s λ p₂ s.

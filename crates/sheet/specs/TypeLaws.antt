@@ -6,7 +6,7 @@ use Prim.Native.Nat.{ℕ, _≤_, _<_}
 use native.Mathlib.Omega.{arith}
 use native.Mathlib.Decide.{decLt}
 use lib.ListN.{length, List·getD-eq-default}
-use Rattle.lists.specs.Lists.{all}
+use Rattle.lists.specs.Lists.{allOf}
 use Rattle.lists.specs.ListLaws.{all-at}
 use Rattle.sheet.specs.Module.{TypeDef, coroutine, kindWord, isStruct, typeAt}
 use Rattle.sheet.specs.Coded.{codedType}
@@ -24,7 +24,7 @@ struct-known types t e = go (decLt t (length types))
     go (no h) = let z : false ≡ true = sym (ap isStruct (type-out types t (omega arith))) ∙ e in let y : _≡_ {A = ℕ} 0 1 = cc in omega arith
 
 -- where all types have codes, every number's type has
-pub good-at : (types : List TypeDef) → all codedType types ≡ true → (t : ℕ) → codedType (typeAt types t) ≡ true
+pub good-at : (types : List TypeDef) → allOf codedType types ≡ true → (t : ℕ) → codedType (typeAt types t) ≡ true
 good-at types good t = go (decLt t (length types))
   where
     go : Dec (t < length types) → codedType (typeAt types t) ≡ true

@@ -1,5 +1,5 @@
 // The catch table of a function: for each position the lowest-numbered handler that covers it.
-// Near-linear: each handler paints the free positions of its range, found by links that are led over ever longer painted stretches.
+// Near-linear: each handler paints the free positions of its range, found by union-find: links with path halving.
 ghost use mathlib.Core.Path.{_≡_};
 ghost use Prim.Native.Nat.{ℕ, _+_, _*_, _≤_, _<_};
 ghost use lib.ListN.{length};
@@ -22,7 +22,7 @@ use region::widen;
 use rule_frames::Frame;
 use writing::push;
 
-// The first free position from p on, or len: each link on the way is led over the next one.
+// The first free position from p on, or len: by path halving, each link on the way becomes the next one's.
 fn find(work: &mut [u32], m: usize, len: usize, p: usize) -> usize
     requires { ⌜ FindIn (now work) m len p ⌝ }
     ensures { λ r. ⌜ FindOut (now (work .entry)) (now (work .exit)) m len p r ⌝ }

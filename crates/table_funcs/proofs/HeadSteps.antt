@@ -55,15 +55,15 @@ pub counts-room : (ws : List ℕ) (c : Frame) → Sound ws c → (t : List ℕ) 
 counts-room ws c x t at h = omega (arith, counts-length (moduleIn ws) (funcOf ws c))
 
 module _ (ws w : List ℕ) (o : Opened) (y : Ready ws w o) (c : Frame) (x : Sound ws c) where
-  pub sig-room : 2 * o .layout .words + c .body .sig < length w
+  pub sig-room : 2 * o .layout .words + c .body .sig .0 < length w
   sig-room = omega (arith, sig-has ws c x .inside, types-inside ws w o y, y .room)
 
-  module _ {s n : ℕ} (e : s ≡ posAt w (2 * o .layout .words) (c .body .sig)) (k : n ≡ length (sigParams (moduleIn ws) (c .body .sig))) where
+  module _ {s n : ℕ} (e : s ≡ posAt w (2 * o .layout .words) (c .body .sig .0)) (k : n ≡ length (sigParams (moduleIn ws) (c .body .sig .0))) where
     counts-are : s ∷ c .regs ∷ n ∷ [] ≡ countWords (moduleIn ws) (funcOf ws c)
     unfolding countWords
     counts-are =
         let es : s ≡ canonType (moduleIn ws .types) (funcOf ws c .sig) =
-        e ∙ type-canon ws w o y (c .body .sig) (sig-has ws c x .inside) ∙ ap (canonType (moduleIn ws .types)) (x .framed .placed .sig) in
+        e ∙ type-canon ws w o y (c .body .sig .0) (sig-has ws c x .inside) ∙ ap (canonType (moduleIn ws .types)) (x .framed .placed .sig) in
         let en : n ≡ length (sigParams (moduleIn ws) (funcOf ws c .sig)) = k ∙ ap (λ t. length (sigParams (moduleIn ws) t)) (x .framed .placed .sig) in
         ap₂ (λ i (l : List ℕ). i ∷ l) es (ap₂ (λ i j. i ∷ j ∷ []) (x .framed .regs) en)
 

@@ -43,10 +43,10 @@ word-small m (ref t) o e =
 -- ── code ──
 
 module _ (ws : List ℕ) (c : Frame) (x : Sound ws c) where
-  pub sig-has : HasSig (moduleIn ws) (c .body .sig)
+  pub sig-has : HasSig (moduleIn ws) (c .body .sig .0)
   sig-has = subst (HasSig (moduleIn ws)) (sym (x .framed .placed .sig)) (clean (moduleIn ws) (funcOf ws c) (x .func) .sig)
 
-  same-results : sigResults (moduleIn ws) (c .body .sig) ≡ sigResults (moduleIn ws) (funcOf ws c .sig)
+  same-results : sigResults (moduleIn ws) (c .body .sig .0) ≡ sigResults (moduleIn ws) (funcOf ws c .sig)
   same-results = ap (sigResults (moduleIn ws)) (x .framed .placed .sig)
 
   none-word : (vs : List ValueType) → length vs ≡ 0 → 0 ≡ resultWord (moduleIn ws) vs
@@ -59,11 +59,11 @@ module _ (ws : List ℕ) (c : Frame) (x : Sound ws c) where
   some-word [] h = absurd (omega arith)
   some-word (v ∷ vs) h = refl
 
-  module _ {n : ℕ} (k : n ≡ length (sigResults (moduleIn ws) (c .body .sig))) where
+  module _ {n : ℕ} (k : n ≡ length (sigResults (moduleIn ws) (c .body .sig .0))) where
     pub result-none : n ≡ 0 → 0 ≡ resultWord (moduleIn ws) (sigResults (moduleIn ws) (funcOf ws c .sig))
     result-none e = none-word (sigResults (moduleIn ws) (funcOf ws c .sig)) (sym (ap length same-results) ∙ sym k ∙ e)
 
-    module _ (e : n ≡ 0 → ⊥) (p : ℕ) (h : Whole (listOf valueType ws p)) (g : valueOf [] (listOf valueType ws p) ≡ sigResults (moduleIn ws) (c .body .sig)) where
+    module _ (e : n ≡ 0 → ⊥) (p : ℕ) (h : Whole (listOf valueType ws p)) (g : valueOf [] (listOf valueType ws p) ≡ sigResults (moduleIn ws) (c .body .sig .0)) where
       counted : n ≡ length (valueOf [] (listOf valueType ws p))
       counted = k ∙ sym (ap length g)
 
@@ -73,7 +73,7 @@ module _ (ws : List ℕ) (c : Frame) (x : Sound ws c) where
       good : Values ws (p + 1) 1 n
       good =
           list-values ws p n h counted
-          (ap (concatMap (valueFaults (moduleIn ws))) g ∙ results-hold (moduleIn ws) (c .body .sig) (x .types) sig-has)
+          (ap (concatMap (valueFaults (moduleIn ws))) g ∙ results-hold (moduleIn ws) (c .body .sig .0) (x .types) sig-has)
 
       pub result-whole : Whole (valueType ws (p + 1))
       result-whole = subst (λ q. Whole (valueType ws q)) first (good .whole 0 (omega arith))

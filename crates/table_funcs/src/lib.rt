@@ -15,7 +15,6 @@ ghost use Rattle.writing.specs.Writing.{written};
 ghost use Rattle.rule_frames.specs.Frames.{funcOf};
 ghost use Rattle.table_funcs.specs.FuncWords.{countWords, headWords, middleWords, tailWords, Sound};
 use error::FuncId;
-use error::TypeId;
 use open_sheet::Opened;
 use open_sheet::canon_type;
 use rule_frames::Frame;
@@ -46,8 +45,8 @@ fn write_counts(
     ensures { λ r. ⌜ now (table .exit) ≡ written (now (table .entry)) at (countWords (moduleOf (now (sheet .entry)) o) (funcOf (sheetWords (now (sheet .entry)) o) c)) ⌝ }
     ensures { λ r. ⌜ r ≡ at + length (countWords (moduleOf (now (sheet .entry)) o) (funcOf (sheetWords (now (sheet .entry)) o) c)) ⌝ }
 {
-    let sig = canon_type(work, o, TypeId(c.body.sig));
-    let params = param_count(sheet, work, o, TypeId(c.body.sig));
+    let sig = canon_type(work, o, c.body.sig);
+    let params = param_count(sheet, work, o, c.body.sig);
     let p = push(table, at, sig.0);
     let q = push(table, p, c.regs);
     push(table, q, params)
@@ -78,7 +77,7 @@ fn result_word(sheet: &[u8], work: &[u32], o: Opened, c: Frame) -> u32
     requires { ⌜ Sound (sheetWords (now sheet) o) c ⌝ }
     ensures { λ r. ⌜ r ≡ resultWord (moduleOf (now (sheet .entry)) o) (sigResults (moduleOf (now (sheet .entry)) o) (funcOf (sheetWords (now (sheet .entry)) o) c .sig)) ⌝ }
 {
-    let t = TypeId(c.body.sig);
+    let t = c.body.sig;
     if result_count(sheet, work, o, t) == 0 {
         return 0;
     }

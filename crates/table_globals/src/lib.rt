@@ -7,7 +7,6 @@ ghost use Rattle.imports.specs.Imports.{globalsFaults};
 ghost use Rattle.open_sheet.specs.Ready.{Opens, Ready, sheetWords, moduleOf};
 ghost use Rattle.table.specs.Table.{globalSection, referenceSection};
 ghost use Rattle.writing.specs.Writing.{written};
-use blocks::word;
 use open_sheet::Opened;
 use table_values::write_references;
 use table_values::write_values;

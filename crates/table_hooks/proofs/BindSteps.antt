@@ -9,7 +9,7 @@ use lib.Dec.{eqb}
 use lib.ListN.{length, getD, set}
 use lib.Seq.{getD-set-same, getD-set-other}
 use borrow.Author.Tests.{ltb-true, eqb-true, eqb-false}
-use Rattle.lists.specs.Lists.{all, from}
+use Rattle.lists.specs.Lists.{allOf, from}
 use Rattle.lists.specs.ListLaws.{and-first, and-second, getD-map-from}
 use Rattle.blocks.specs.Blocks.{words}
 use Rattle.blocks.specs.Frame.{firstWords}
@@ -44,7 +44,7 @@ module _ (b : List ℕ) (n at : ℕ) {a : Hook} {q : ℕ} (e : hookOf (firstWord
 -- left bindings are ahead, from q on; v is w but for the hooks' places, and what stands there with those ahead gives each hook's word
 pub record Binds (b : List ℕ) (n : ℕ) (hooks : List Hook) (w : List ℕ) (first left q : ℕ) (v : List ℕ) : Type 0 where
   pub whole : Whole (many left hookOf (firstWords b n) q)
-  pub fits : all bindingFits (valueOf [] (many left hookOf (firstWords b n) q)) ≡ true
+  pub fits : allOf bindingFits (valueOf [] (many left hookOf (firstWords b n) q)) ≡ true
   pub frame : Frame (Off first (first + 31)) w v
   pub ahead : (h : ℕ) → h < 31 → hookWord h (getD v (first + h) 0) (valueOf [] (many left hookOf (firstWords b n) q)) ≡ hookWord h 0 hooks
 
@@ -64,7 +64,7 @@ module _ (b : List ℕ) (o : Opened) (x : Opens (firstWords b (o .layout .words)
       let l : valueOf [] (many c hookOf ws (o .layout .hooks + 1)) ≡ moduleIn ws .hooks = sym (list-value hookOf b (o .layout .words) (o .layout .hooks) [] listed e) ∙ value-got [] (x .located .hooks) in
       record {
         whole = list-whole hookOf b (o .layout .words) (o .layout .hooks) listed e;
-        fits = ap (all bindingFits) l ∙ f .fits;
+        fits = ap (allOf bindingFits) l ∙ f .fits;
         frame = frame-refl (Off first (first + 31)) w;
         ahead = λ h k. ap₂ (λ y bs. hookWord h y bs) (z h k) l;
       }
@@ -91,10 +91,10 @@ module _ (b : List ℕ) (n : ℕ) (hooks : List Hook) (w : List ℕ) (first left
     next f = many-first hookOf (firstWords b n) left q (s .whole) h f
 
     fits-first : (a : Hook) (xs : List Hook) {r : ℕ} → many left hookOf (firstWords b n) q ≡ got (a ∷ xs) r → bindingFits a ≡ true
-    fits-first a xs e = and-first (bindingFits a) (all bindingFits xs) (ap (all bindingFits) (sym (value-got [] e)) ∙ s .fits)
+    fits-first a xs e = and-first (bindingFits a) (allOf bindingFits xs) (ap (allOf bindingFits) (sym (value-got [] e)) ∙ s .fits)
 
-    fits-rest : (a : Hook) (xs : List Hook) {r : ℕ} → many left hookOf (firstWords b n) q ≡ got (a ∷ xs) r → all bindingFits xs ≡ true
-    fits-rest a xs e = and-second (bindingFits a) (all bindingFits xs) (ap (all bindingFits) (sym (value-got [] e)) ∙ s .fits)
+    fits-rest : (a : Hook) (xs : List Hook) {r : ℕ} → many left hookOf (firstWords b n) q ≡ got (a ∷ xs) r → allOf bindingFits xs ≡ true
+    fits-rest a xs e = and-second (bindingFits a) (allOf bindingFits xs) (ap (allOf bindingFits) (sym (value-got [] e)) ∙ s .fits)
 
     small : (a : Hook) → bindingFits a ≡ true → bindingWord a < 4294967296
     unfolding bindingFits
@@ -114,7 +114,7 @@ module _ (b : List ℕ) (n : ℕ) (hooks : List Hook) (w : List ℕ) (first left
         let known : a .hook < 31 = hook-known b n q e₁ in
         record {
           whole = got-whole m;
-          fits = ap (all bindingFits) (value-got [] m) ∙ fits-rest a xs e₃;
+          fits = ap (allOf bindingFits) (value-got [] m) ∙ fits-rest a xs e₃;
           frame = frame-then (Off first (first + 31)) (Off first (first + 31)) (Off first (first + 31)) w v v' (λ k o. o) (λ k o. o) (s .frame)
               (subst (Frame (Off first (first + 31)) v) (sym t) (frame-set (Off first (first + 31)) v (first + a .hook) (bindingWord a) (λ f. f (omega arith) (omega arith))));
           ahead = λ k l.

@@ -8,7 +8,7 @@ use native.Mathlib.Nat.{zero-add}
 use lib.Dec.{eqb, ltb}
 use lib.ListN.{length, getD, length-map}
 use borrow.Author.Tests.{lt-ltb, ltb-true}
-use Rattle.lists.specs.Lists.{all, concatMap, from}
+use Rattle.lists.specs.Lists.{allOf, concatMap, from}
 use Rattle.lists.specs.ListLaws.{and-second, all-at, all-from, length-from, length-concatMap}
 use Rattle.law_faults.specs.Empty.{append-empty, map-empty, range-empty, every}
 use Rattle.error.specs.declared.What.the-variants.{Functions, Imports}
@@ -130,7 +130,7 @@ module _ (ws w : List ℕ) (o : Opened) (x : Ready ws w o) (few : o .layout .wor
   unfolding hooksFaults
   bindings-fit e =
       let f : concatMap (hookFaults m) (m .hooks) ≡ [] = (map-empty inModule (concatMap (hookFaults m) (m .hooks))) .0 e in
-      let c : all codedHook (m .hooks) ≡ true = hooks-codes ws .found (o .layout .hooks) (m .hooks) (o .layout .start) (x .opens .located .hooks) .fine in
+      let c : allOf codedHook (m .hooks) ≡ true = hooks-codes ws .found (o .layout .hooks) (m .hooks) (o .layout .start) (x .opens .located .hooks) .fine in
       record { fits = all-from bindingFits (m .hooks) none λ i h. one (getD (m .hooks) i none) ((every none (hookFaults m) (m .hooks)) .0 f i h) (all-at codedHook (m .hooks) i none c h) }
     where
       one : (b : Hook) → hookFaults m b ≡ [] → codedHook b ≡ true → bindingFits b ≡ true

@@ -5,7 +5,7 @@ use mathlib.Core.List.{List, [], _∷_}
 use mathlib.Core.Bool.{Bool, true}
 use lib.Dec.{ltb}
 use lib.ListN.{length, getD}
-use Rattle.lists.specs.Lists.{all, concatMap, from}
+use Rattle.lists.specs.Lists.{allOf, concatMap, from}
 use Rattle.blocks.specs.Blocks.{words}
 use Rattle.sheet.specs.Module.{TypeDef, Hook, Module}
 use Rattle.canon.specs.Canon.{canonType}
@@ -43,4 +43,4 @@ bindingFits b = ltb (bindingWord b) 4294967296
 
 -- each binding's word fits 32 bits
 pub record BindingsFit (m : Module) : Type 0 where
-  pub fits : all bindingFits (m .hooks) ≡ true
+  pub fits : allOf bindingFits (m .hooks) ≡ true

@@ -6,7 +6,6 @@ ghost use Rattle.writing.specs.Writing.{written};
 ghost use Rattle.table.specs.Table.{canonSection};
 ghost use Rattle.open_sheet.specs.Ready.{Ready, sheetWords, moduleOf};
 ghost use Rattle.table_imports.specs.Sections.{eachOf, linkedImport, linkedImports, SigsInside, canonOf};
-use blocks::word;
 use error::TypeId;
 use open_sheet::Opened;
 use open_sheet::canon_type;

@@ -9,7 +9,7 @@ use denote.Enum.Declared.{tagOf}
 use lib.Dec.{ltb}
 use lib.ListN.{length, getD}
 use borrow.Author.Tests.{le-leb, lt-leb, le-ltb, lt-ltb, ltb-true}
-use Rattle.lists.specs.Lists.{all}
+use Rattle.lists.specs.Lists.{allOf}
 use Rattle.lists.specs.ListLaws.{both, and-first, and-second}
 use Rattle.utf8.specs.declared.State.{State}
 use Rattle.utf8.proofs.State.{the-type}
@@ -190,11 +190,11 @@ done-place (due []) e = refl
 done-place (due (r ∷ rs)) e = let z : _≡_ {A = ℕ} 0 1 = cc in absurd (omega arith)
 done-place wrong e = let z : _≡_ {A = ℕ} 0 1 = cc in absurd (omega arith)
 
-all-ascii : (bs : List ℕ) → all (λ b. ltb b 0x80) bs ≡ true → after (due []) bs ≡ due []
+all-ascii : (bs : List ℕ) → allOf (λ b. ltb b 0x80) bs ≡ true → after (due []) bs ≡ due []
 unfolding after next meaning
 all-ascii [] h = refl
 all-ascii (b ∷ bs) h =
-    let t = all (λ b. ltb b 0x80) bs in
+    let t = allOf (λ b. ltb b 0x80) bs in
     let l : b < 0x80 = ltb-true b 0x80 (and-first (ltb b 0x80) t h) in
     ap (λ p. after p bs) (sym (first-done b (omega arith))) ∙ all-ascii bs (and-second (ltb b 0x80) t h)
 

@@ -3,7 +3,7 @@ use mathlib.Core.Path.{_≡_, refl}
 use mathlib.Core.List.{List, [], _∷_}
 use mathlib.Core.Bool.{true, not, _&&_}
 use Prim.Native.Nat.{ℕ}
-use Rattle.lists.specs.Lists.{all}
+use Rattle.lists.specs.Lists.{allOf}
 use Rattle.utf8.specs.Utf8.{begin, next, after, wellFormed}
 
 -- section 7, and the last octets of each length
@@ -39,6 +39,6 @@ wrong =
     ∷ (0xE2 ∷ 0x41 ∷ [])
     ∷ []
 
-pub examples-hold : all wellFormed right && all (λ s. not (wellFormed s)) wrong ≡ true
+pub examples-hold : allOf wellFormed right && allOf (λ s. not (wellFormed s)) wrong ≡ true
 unfolding begin next after wellFormed right wrong
 examples-hold = refl

@@ -3,7 +3,8 @@ use Prim.Native.Nat.{ℕ}
 use mathlib.Core.List.{List, [], _∷_, _++_, List·Memᴰ}
 use mathlib.Core.Bool.{true}
 use mathlib.Core.Path.{_≡_}
-use Rattle.utf8.specs.Utf8.{Range, chars, within}
+use mathlib.Core.Logic.{_↔_}
+use Rattle.utf8.specs.Utf8.{Range, chars, within, wellFormed}
 
 -- the octets of one character, each within its range of the row
 pub data Char : List Range → List ℕ → Type 0 where
@@ -14,3 +15,7 @@ pub data Char : List Range → List ℕ → Type 0 where
 pub data Octets : List ℕ → Type 0 where
   none : Octets []
   char : {row : List Range} {c bs : List ℕ} → List·Memᴰ row chars → Char row c → Octets bs → Octets (c ++ bs)
+
+-- well-formed is what the grammar derives
+unfoldable pub ByGrammar : Type 0
+ByGrammar = (bs : List ℕ) → (wellFormed bs ≡ true) ↔ Octets bs

@@ -9,7 +9,7 @@ use lib.Dec.{leb}
 use borrow.Author.Tests.{leb-true}
 use Rattle.lists.specs.ListLaws.{and-first, and-second}
 use Rattle.utf8.specs.Utf8.{Range, _to_, chars, within, Place, wrong, due, begin, next, after, done, wellFormed}
-use Rattle.utf8.specs.Grammar.{Char, end, octet, Octets, none, char}
+use Rattle.utf8.specs.Grammar.{Char, end, octet, Octets, char, ByGrammar}
 
 false-true : {C : Type 0} → false ≡ true → C
 false-true e = let z : _≡_ {A = ℕ} 0 1 = cc in absurd (omega arith)
@@ -49,7 +49,7 @@ octets-of (rest end o) = o
 
 derived : (bs : List ℕ) (rs : List Range) → done (after (due rs) bs) ≡ true → Rest rs bs
 unfolding after next
-derived [] [] h = rest end none
+derived [] [] h = rest end Octets.none
 derived [] (r ∷ rs) h = false-true h
 derived (b ∷ bs) [] h = go (begin chars b) (begun chars b) h (derived bs)
   where
@@ -144,10 +144,10 @@ after-whole bs m (octet {r} {row} {b} {c} w k) = ap (λ p. after p (c ++ bs)) (b
 
 accepted : {bs : List ℕ} → Octets bs → done (after (due []) bs) ≡ true
 unfolding after
-accepted none = refl
+accepted Octets.none = refl
 accepted (char {row} {c} {bs} m k o) = ap done (after-whole bs m k) ∙ accepted o
 
 -- THE GRAMMAR DECIDES
-pub by-grammar : (bs : List ℕ) → (wellFormed bs ≡ true) ↔ Octets bs
-unfolding wellFormed
+pub by-grammar : ByGrammar
+unfolding ByGrammar wellFormed
 by-grammar bs = (λ h. octets-of (derived bs [] h), accepted)

@@ -1,4 +1,4 @@
--- `open_layout::funcs/skip_code_half` meets its contract.
+-- `open_funcs::skip_code_half` meets its contract.
 use borrow.Author.Needs.{needs}
 use native.Mathlib.Omega.{arith}
 use Rattle.open_funcs.proofs.FuncSteps.{code-next, code-stop-1, code-stop-2, code-stop-3}

@@ -1,4 +1,4 @@
--- `open_layout::funcs/skip_frame_half` meets its contract.
+-- `open_funcs::skip_frame_half` meets its contract.
 use borrow.Author.Needs.{needs}
 use native.Mathlib.Omega.{arith}
 use Rattle.open_funcs.proofs.FuncSteps.{frame-next, frame-stop-1, frame-stop-2, frame-stop-3, frame-past}

@@ -1,4 +1,4 @@
--- `open_layout::funcs/skip_function` meets its contract.
+-- `open_funcs::skip_function` meets its contract.
 use borrow.Author.Needs.{needs}
 use native.Mathlib.Omega.{arith}
 use Rattle.open_funcs.proofs.FuncSteps.{function-next, function-stop}

@@ -1,4 +1,4 @@
--- `open_layout::funcs/skip_inst` meets its contract.
+-- `open_funcs::skip_inst` meets its contract.
 use borrow.Author.Needs.{needs}
 use native.Mathlib.Omega.{arith}
 use Rattle.open_funcs.proofs.FuncSteps.{inst-next, inst-unlisted, inst-short, inst-past}

@@ -1,4 +1,4 @@
--- `open_layout::funcs/skip_switches` meets its contract.
+-- `open_funcs::skip_switches` meets its contract.
 use borrow.Author.Needs.{needs}
 use native.Mathlib.Omega.{arith}
 use Rattle.blocks.specs.Frame.{firstWords}

@@ -1,4 +1,4 @@
--- `open_layout::types/skip_struct` meets its contract.
+-- `open_types::skip_struct` meets its contract.
 use borrow.Author.Needs.{needs}
 use native.Mathlib.Omega.{arith}
 use Rattle.open_types.proofs.TypeSteps.{struct-next, struct-stop, struct-short, struct-past}

@@ -1,4 +1,4 @@
--- `open_layout::types/skip_type` meets its contract.
+-- `open_types::skip_type` meets its contract.
 use borrow.Author.Needs.{needs}
 use native.Mathlib.Omega.{arith}
 use Rattle.open_types.proofs.TypeSteps.{type-func, type-struct, type-array, type-map, type-cell, type-iter, type-coroutine, type-unlisted, type-past}

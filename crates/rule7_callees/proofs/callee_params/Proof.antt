@@ -1,4 +1,4 @@
--- `rule7_inst::callees/callee_params` meets its contract.
+-- `rule7_callees::callee_params` meets its contract.
 use borrow.Author.Needs.{needs}
 use Rattle.open_sheet.specs.ReadyLaws.{func-room}
 use Rattle.rule7_callees.proofs.CalleeSteps.{callee-params}

@@ -1,4 +1,4 @@
--- `rule7_inst::callees/capture_count` meets its contract.
+-- `rule7_callees::capture_count` meets its contract.
 use borrow.Author.Needs.{needs}
 use Rattle.rule7_callees.proofs.capture_count.Statement.{statement}
 use Rattle.rule7_callees.proofs.capture_count.Tie as tie

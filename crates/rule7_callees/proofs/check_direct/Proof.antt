@@ -1,4 +1,4 @@
--- `rule7_inst::callees/check_direct` meets its contract.
+-- `rule7_callees::check_direct` meets its contract.
 use borrow.Author.Needs.{needs}
 use Rattle.open_sheet.specs.ReadyLaws.{captures-room}
 use Rattle.rule7_callees.proofs.CalleeSteps.{direct-window, direct-arity, direct-captures}

@@ -1,4 +1,4 @@
--- `rule7_inst::callees/check_import` meets its contract.
+-- `rule7_callees::check_import` meets its contract.
 use borrow.Author.Needs.{needs}
 use Rattle.rule7_callees.proofs.CalleeSteps.{import-window, import-arity}
 use Rattle.rule7_callees.proofs.check_import.Statement.{statement}

@@ -1,4 +1,4 @@
--- `rule7_inst::callees/import_params` meets its contract.
+-- `rule7_callees::import_params` meets its contract.
 use borrow.Author.Needs.{needs}
 use native.Mathlib.Omega.{arith}
 use Rattle.open_sheet.specs.ReadyLaws.{import-room}

@@ -1,4 +1,4 @@
--- `rule7_inst::callees/shape_length` meets its contract.
+-- `rule7_callees::shape_length` meets its contract.
 use borrow.Author.Needs.{needs}
 use Rattle.rule7_callees.proofs.shape_length.Statement.{statement}
 use Rattle.rule7_callees.proofs.shape_length.Tie as tie

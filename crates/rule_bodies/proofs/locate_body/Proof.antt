@@ -14,12 +14,12 @@ locate-back-requires c κs = search needs
 word-requires : tie.Need-word-requires
 word-requires c κs = search needs
 
-add-t7 : tie.Need-add-t7
-add-t7 c = omega (arith, function-within)
+add-t8 : tie.Need-add-t8
+add-t8 c = omega (arith, function-within)
 
 returns : tie.Need-returns
 returns c = search (needs, placed-body)
 
 pub locate-body-spec : {M : Type 1} → statement M
 locate-body-spec =
-    tie.close (tie.spec locate-front-requires locate-back-requires word-requires add-t7 returns)
+    tie.close (tie.spec locate-front-requires locate-back-requires word-requires add-t8 returns)

@@ -1,4 +1,4 @@
--- `table_spans::visit` meets its contract.
+-- `table_spans::+visit` meets its contract.
 use borrow.Author.Needs.{needs}
 use native.Mathlib.Omega.{arith}
 use Prim.Native.Nat.{ℕ, _<_, _-_}

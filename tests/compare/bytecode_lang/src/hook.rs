@@ -4,7 +4,7 @@ use core::fmt;
 
 use crate::{FuncId, ImportId};
 
-/// A hook; paper 01 names the first ten, the others share one shape.
+/// A hook; docs/FORMAT.md, "Hook shapes" names the first ten, the others share one shape.
 #[derive(Clone, Copy, Debug, PartialEq, Eq)]
 pub enum Hook {
     Neg,

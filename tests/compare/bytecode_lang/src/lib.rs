@@ -1,5 +1,5 @@
 //! Stand-in for the crate `bytecode_lang`: what program.rs uses of it, with the
-//! meaning that paper 01 gives ("Stand-ins for bytecode_lang", "Instructions").
+//! meaning that it has in docs/FORMAT.md, "Stand-ins", "Instructions".
 
 mod calls;
 mod hook;

@@ -1,6 +1,6 @@
 //! Operation codes 0 to 34 and their fields, in the order A, B or W, C.
 
-/// An operation code; its number is that of paper 01.
+/// An operation code; its number is that of docs/FORMAT.md, "The 35 codes".
 #[derive(Clone, Copy, Debug, PartialEq, Eq)]
 #[repr(u8)]
 pub enum Opcode {

@@ -1,4 +1,4 @@
-//! The rows of paper 01, "Tried by hand", each by its name.
+//! The rows of docs/FORMAT.md, "Worked rows", each by its name.
 
 use compare::{answer_plain, Linked};
 use sheets::build::{abc, aw, func, function, hook_function, ret_void, strings, structure};

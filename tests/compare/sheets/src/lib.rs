@@ -1,4 +1,4 @@
-//! Sheets and host lists by paper 01: bytes, words, plain data, and from there the Rust's module and host.
+//! Sheets and host lists by docs/FORMAT.md: bytes, words, plain data, and from there the Rust's module and host.
 
 mod blocks;
 pub mod build;

@@ -1,4 +1,4 @@
--- `error::numbers::at` meets its contract.
+-- `error::numbers/at` meets its contract.
 use mathlib.Core.Path.{refl}
 use Rattle.error.specs.Numbers.{sixOf}
 use Rattle.error.proofs.numbers.at.Statement.{statement}

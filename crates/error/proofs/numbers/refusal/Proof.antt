@@ -1,4 +1,4 @@
--- `error::numbers::refusal` meets its contract.
+-- `error::numbers/refusal` meets its contract.
 use borrow.Author.Needs.{needs}
 use Rattle.error.specs.Answer.{kindNumbers}
 use Rattle.error.specs.NumbersLaws.{by-kind, payloads}

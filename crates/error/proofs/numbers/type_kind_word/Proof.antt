@@ -1,4 +1,4 @@
--- `error::numbers::type_kind_word` meets its contract.
+-- `error::numbers/type_kind_word` meets its contract.
 use mathlib.Core.Path.{sym, ap}
 use Rattle.error.specs.Answer.{typeKindWord}
 use borrow.Author.Needs.{needs}

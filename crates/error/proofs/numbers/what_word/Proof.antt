@@ -1,4 +1,4 @@
--- `error::numbers::what_word` meets its contract.
+-- `error::numbers/what_word` meets its contract.
 use mathlib.Core.Path.{sym, ap}
 use Rattle.error.specs.Answer.{whatWord}
 use borrow.Author.Needs.{needs}

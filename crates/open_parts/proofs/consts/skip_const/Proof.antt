@@ -1,4 +1,4 @@
--- `open_layout::consts/skip_const` meets its contract.
+-- `open_parts::consts/skip_const` meets its contract.
 use borrow.Author.Needs.{needs}
 use native.Mathlib.Omega.{arith}
 use Rattle.open_parts.proofs.ConstSteps.{plain-next, plain-short, string-next, string-short, array-next, map-next, const-unlisted, const-past}

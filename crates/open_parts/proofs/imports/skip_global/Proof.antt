@@ -1,4 +1,4 @@
--- `open_layout::imports/skip_global` meets its contract.
+-- `open_parts::imports/skip_global` meets its contract.
 use borrow.Author.Needs.{needs}
 use native.Mathlib.Omega.{arith}
 use Rattle.open_parts.proofs.ConstSteps.{global-next, global-short, global-stop}

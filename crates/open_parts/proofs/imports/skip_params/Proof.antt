@@ -1,4 +1,4 @@
--- `open_layout::imports/skip_params` meets its contract.
+-- `open_parts::imports/skip_params` meets its contract.
 use borrow.Author.Needs.{needs}
 use native.Mathlib.Omega.{arith}
 use Rattle.open_parts.proofs.ConstSteps.{params-none, params-next, params-unlisted, params-past}

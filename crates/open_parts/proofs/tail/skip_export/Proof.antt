@@ -1,4 +1,4 @@
--- `open_layout::tail/skip_export` meets its contract.
+-- `open_parts::tail/skip_export` meets its contract.
 use borrow.Author.Needs.{needs}
 use native.Mathlib.Omega.{arith}
 use Rattle.open_parts.proofs.TailSteps.{export-next, export-unlisted, export-short, export-past}

@@ -1,4 +1,4 @@
--- `open_layout::tail/skip_hook` meets its contract.
+-- `open_parts::tail/skip_hook` meets its contract.
 use borrow.Author.Needs.{needs}
 use native.Mathlib.Omega.{arith}
 use Rattle.open_parts.proofs.TailSteps.{hook-next, hook-unlisted, hook-callee, hook-short, hook-past}

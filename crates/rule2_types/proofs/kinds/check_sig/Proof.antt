@@ -1,4 +1,4 @@
--- `rule2_types::kinds::check_sig` meets its contract.
+-- `rule2_types::kinds/check_sig` meets its contract.
 use borrow.Author.Needs.{needs}
 use native.Mathlib.Omega.{arith}
 use Rattle.rule2_types.proofs.KindRules.{func-room, func-params, func-results, sig-many, sig-stop, sig-then}

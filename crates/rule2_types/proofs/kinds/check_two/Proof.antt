@@ -1,4 +1,4 @@
--- `rule2_types::kinds::check_two` meets its contract.
+-- `rule2_types::kinds/check_two` meets its contract.
 use borrow.Author.Needs.{needs}
 use native.Mathlib.Omega.{arith}
 use Rattle.rule2_types.proofs.KindRules.{two-in, two-key, two-value, two-stop, two-then}

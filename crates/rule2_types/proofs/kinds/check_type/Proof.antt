@@ -1,4 +1,4 @@
--- `rule2_types::kinds::check_type` meets its contract.
+-- `rule2_types::kinds/check_type` meets its contract.
 use borrow.Author.Needs.{needs}
 use native.Mathlib.Omega.{arith}
 use Rattle.rule2_types.proofs.KindRules.{type-in, kind-func-whole, kind-struct-whole, kind-array-whole, kind-map-whole, kind-cell-whole, kind-iter-whole, kind-func, kind-struct, kind-array, kind-map, kind-cell, kind-iter, kind-rest}

@@ -1,4 +1,4 @@
--- `rule7_inst::kinds/check_kind` meets its contract.
+-- `rule7_callees::kinds/check_kind` meets its contract.
 use borrow.Author.Needs.{needs}
 use native.Mathlib.Omega.{arith}
 use Rattle.rule7_callees.proofs.KindSteps.{ref-within, kind-holds, kind-broken}

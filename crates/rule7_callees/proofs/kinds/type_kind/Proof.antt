@@ -1,4 +1,4 @@
--- `rule7_inst::kinds/type_kind` meets its contract.
+-- `rule7_callees::kinds/type_kind` meets its contract.
 use borrow.Author.Needs.{needs}
 use Rattle.open_sheet.specs.ReadyLaws.{type-room}
 use Rattle.rule7_callees.proofs.KindSteps.{kind-read, kind-none}

@@ -1,4 +1,4 @@
--- `rule7_inst::kinds/wanted_word` meets its contract.
+-- `rule7_callees::kinds/wanted_word` meets its contract.
 use borrow.Author.Needs.{needs}
 use Rattle.rule7_callees.proofs.KindSteps.{wanted-struct, wanted-array, wanted-map, wanted-cell}
 use Rattle.rule7_callees.proofs.kinds.wanted_word.Statement.{statement}

@@ -1,4 +1,4 @@
--- `rule_lists::references::is_taken` meets its contract.
+-- `rule_lists::references/is_taken` meets its contract.
 use borrow.Author.Needs.{needs}
 use native.Mathlib.Omega.{arith}
 use Rattle.open_sheet.specs.ReadyLaws.{type-room}

@@ -1,4 +1,4 @@
--- `rule_lists::references::reference_fits` meets its contract.
+-- `rule_lists::references/reference_fits` meets its contract.
 use borrow.Author.Needs.{needs}
 use Rattle.rule_lists.proofs.ReferenceSteps.{reference-none, reference-some}
 use Rattle.rule_lists.proofs.references.reference_fits.Statement.{statement}

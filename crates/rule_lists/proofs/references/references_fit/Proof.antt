@@ -1,4 +1,4 @@
--- `rule_lists::references::references_fit` meets its contract.
+-- `rule_lists::references/references_fit` meets its contract.
 use borrow.Author.Needs.{needs}
 use native.Mathlib.Omega.{arith}
 use borrow.Author.Tests.{not-true, not-false}

@@ -1,4 +1,4 @@
--- `rule_values::numbers::check_strings` meets its contract.
+-- `rule_values::numbers/check_strings` meets its contract.
 use borrow.Author.Needs.{needs}
 use native.Mathlib.Omega.{arith}
 use Rattle.blocks.specs.Frame.{firstWords}

@@ -1,4 +1,4 @@
--- `rule_values::numbers::check_type_refs` meets its contract.
+-- `rule_values::numbers/check_type_refs` meets its contract.
 use borrow.Author.Needs.{needs}
 use native.Mathlib.Omega.{arith}
 use lib.ListN.{length}

@@ -1,5 +1,5 @@
-//! Paper 01 written out once more, over plain data and without program.rs or its stand-ins:
-//! the reference must answer as the paper says, word for word.
+//! docs/FORMAT.md written out once more, over plain data and without program.rs or its stand-ins:
+//! the reference must answer as it says, word for word.
 
 mod code;
 mod records;
@@ -11,8 +11,8 @@ use compare::{answer, Answer};
 use generator::case;
 use sheets::{decode_hosts, decode_sheet, needed, HostEntry, Sheet, BLOCK};
 
-/// The answer to bytes, by the paper.
-fn by_paper(sheet: &[u8], hosts: &[u8], table_len: u32, work_len: u32) -> Answer {
+/// The answer to bytes, by the format.
+fn by_format(sheet: &[u8], hosts: &[u8], table_len: u32, work_len: u32) -> Answer {
     let refused = |numbers| Answer {
         numbers,
         table: None,
@@ -62,17 +62,17 @@ fn first_fault(sheet: &Sheet, hosts: &[HostEntry]) -> Result<(), rules::Fault> {
 }
 
 #[test]
-fn the_reference_answers_as_the_paper_says() {
+fn the_reference_answers_as_the_format_says() {
     let mut compared = 0;
     for index in 0..12_000 {
         let c = case(14, index);
-        // The paper's definitions are computed plainly, so sheets of more blocks would take long.
+        // The rules are computed plainly, so sheets of more blocks would take long.
         if c.sheet.len() > 24 * BLOCK || c.hosts.len() > 24 * BLOCK {
             continue;
         }
         let rust = answer(&c.sheet, &c.hosts, c.table_len, c.work_len);
-        let paper = by_paper(&c.sheet, &c.hosts, c.table_len, c.work_len);
-        assert_eq!(rust, paper, "case {index}, {}", c.label);
+        let format = by_format(&c.sheet, &c.hosts, c.table_len, c.work_len);
+        assert_eq!(rust, format, "case {index}, {}", c.label);
         compared += 1;
     }
     assert!(compared >= 10_000, "{compared} compared");
