@@ -25,7 +25,8 @@ use Rattle.law_renumbering.specs.Statement.{Family, Call, LongEnough, answers, 
 use Rattle.law_renumbering.specs.Accepting.{family-front, types-few}
 use Rattle.law_renumbering.specs.Theorem.{agree-fronts}
 use Rattle.law_renumbering.specs.Sheets.{as-renumbered, renumbered-sheets}
-use Rattle.calls.specs.Calls.{Loads, LoadsNumbers, isEarly, Exactly, Verdict, Slices, RefusesRight, Begins, FamilyAsked, FamilyRight, NotShort, AgreeAsked, NumberingFree}
+use Rattle.calls.specs.Calls.{Loads, LoadsNumbers, isEarly, Exactly, Verdict, Slices}
+use Rattle.calls.specs.Calls.{RefusesRight, Begins, FamilyAsked, FamilyRight, NotShort, AgreeAsked, NumberingFree}
 
 -- ── calls ──
 

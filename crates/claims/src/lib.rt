@@ -8,7 +8,8 @@ use paqlluri::paqlluri_load;
 use query::descends;
 
 pub fn call(sheet: &[u8], hosts: &[u8], table: &mut [u32], work: &mut [u32]) -> Loaded
-    ensures { λ r. ⌜ Loads (now (sheet .entry)) (now (hosts .entry)) (now (table .entry)) (now (work .entry)) r (now (table .exit)) (now (work .exit)) ⌝ }
+    ensures { λ r. ⌜ Loads (now (sheet .entry)) (now (hosts .entry)) (now (table .entry)) (now (work .entry))
+        r (now (table .exit)) (now (work .exit)) ⌝ }
 {
     load(sheet, hosts, table, work)
 }
@@ -27,7 +28,8 @@ pub fn call_numbers(
     work: &mut [u32],
     answer: &mut [u32; 6],
 )
-    ensures { λ r. ⌜ LoadsNumbers (now (sheet .entry)) (now (hosts .entry)) (now (table .entry)) (now (work .entry)) (now (answer .exit)) (now (table .exit)) (now (work .exit)) ⌝ }
+    ensures { λ r. ⌜ LoadsNumbers (now (sheet .entry)) (now (hosts .entry)) (now (table .entry)) (now (work .entry))
+        (now (answer .exit)) (now (table .exit)) (now (work .exit)) ⌝ }
 {
     paqlluri_load(sheet, hosts, table, work, answer);
 }

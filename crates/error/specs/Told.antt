@@ -2,7 +2,7 @@
 use Prim.Native.Nat.{ℕ}
 use mathlib.Core.Path.{_≡_, refl, sym, ap, _∙_}
 use mathlib.Core.List.{List, [], _∷_, _++_}
-use mathlib.Core.Bool.{false, cond}
+use mathlib.Core.Bool.{Bool, true, false, cond}
 use lib.Dec.{eqb}
 use lib.ListN.{getD}
 use Rattle.error.specs.declared.What.{What}
@@ -14,7 +14,8 @@ use Rattle.error.specs.declared.LoadErrorKind.the-variants.{Decode, Unre
 use Rattle.error.specs.declared.LoadError.{LoadError}
 use Rattle.error.specs.declared.Loaded.{Loaded}
 use Rattle.error.specs.declared.Loaded.the-variants.{Accepted, Refused}
-use Rattle.error.specs.Answer.{whatWord, typeKindWord, kindNumbers, numbers, isAccepted, stringNumber, KindsListed, WordsListed, NumbersTell}
+use Rattle.error.specs.Answer.{whatWord, typeKindWord, kindNumbers, numbers}
+use Rattle.error.specs.Answer.{isAccepted, stringNumber, KindsListed, WordsListed, NumbersTell}
 
 -- ── from the numbers back to the answer ──
 
@@ -38,10 +39,12 @@ kindOf k w n s =
     ∷ BadModifier ∷ InvalidHandler ∷ CatchNotDyn ∷ TailCallInTry ∷ BadParent ∷ InheritanceTooDeep ∷ BadConstant ∷ BadHook n
     ∷ BadStart ∷ BadParamList ∷ BadCallShape ∷ BadHostList ∷ ShortSlice ∷ NotLinked ∷ MissedStruct ∷ []) k Decode
 
+refusalOf : List ℕ → LoadError
+refusalOf six =
+    record { kind = kindOf (getD six 0 0) (getD six 1 0) (getD six 2 0) (getD six 3 0); func = getD six 4 0; pc = getD six 5 0 }
+
 told : List ℕ → Loaded
-told six =
-    cond (eqb (getD six 0 0) 0) (Accepted (getD six 2 0))
-    (Refused (record { kind = kindOf (getD six 0 0) (getD six 1 0) (getD six 2 0) (getD six 3 0); func = getD six 4 0; pc = getD six 5 0 }))
+told six = cond (eqb (getD six 0 0) 0) (Accepted (getD six 2 0)) (Refused (refusalOf six))
 
 -- ── each case by computing ──
 
@@ -70,7 +73,7 @@ wanted-told Map = refl
 wanted-told Cell = refl
 
 refused-told : (k : LoadErrorKind) (f p : ℕ) → told (kindNumbers k ++ (f ∷ p ∷ [])) ≡ Refused (record { kind = k; func = f; pc = p })
-unfolding told kindOf kindNumbers
+unfolding told refusalOf kindOf kindNumbers
 refused-told Decode f p = refl
 refused-told (UnresolvedImport m n) f p = refl
 refused-told (OutOfRange what i) f p = ap (λ w. Refused (record { kind = OutOfRange w i; func = f; pc = p })) (what-told what)
@@ -117,38 +120,14 @@ pub words-listed : WordsListed
 unfolding WordsListed whatWord typeKindWord
 words-listed = (refl, refl)
 
--- no refusal has kind 0
-not-zero : (k : LoadErrorKind) (rest : List ℕ) → eqb (getD (kindNumbers k ++ rest) 0 0) 0 ≡ false
-unfolding kindNumbers
-not-zero Decode rest = refl
-not-zero (UnresolvedImport m n) rest = refl
-not-zero (OutOfRange what i) rest = refl
-not-zero BadSignature rest = refl
-not-zero ParamMismatch rest = refl
-not-zero EmptyCode rest = refl
-not-zero FallsThrough rest = refl
-not-zero (ArityMismatch expected found) rest = refl
-not-zero CalleeHasCaptures rest = refl
-not-zero PromoteNotDynamic rest = refl
-not-zero (WrongTypeKind wanted) rest = refl
-not-zero BadModifier rest = refl
-not-zero InvalidHandler rest = refl
-not-zero CatchNotDyn rest = refl
-not-zero TailCallInTry rest = refl
-not-zero BadParent rest = refl
-not-zero InheritanceTooDeep rest = refl
-not-zero BadConstant rest = refl
-not-zero (BadHook hook) rest = refl
-not-zero BadStart rest = refl
-not-zero BadParamList rest = refl
-not-zero BadCallShape rest = refl
-not-zero BadHostList rest = refl
-not-zero ShortSlice rest = refl
-not-zero NotLinked rest = refl
-not-zero MissedStruct rest = refl
+by-first : (b : Bool) (l : ℕ) (e : LoadError) → isAccepted (cond b (Accepted l) (Refused e)) ≡ b
+unfolding isAccepted
+by-first true l e = refl
+by-first false l e = refl
 
--- so accepted is kind 0
+-- accepted is kind 0
 pub accepted-zero : (r : Loaded) → isAccepted r ≡ eqb (getD (numbers r) 0 0) 0
-unfolding isAccepted numbers
-accepted-zero (Accepted l) = refl
-accepted-zero (Refused e) = sym (not-zero (e .kind) (e .func ∷ e .pc ∷ []))
+unfolding told
+accepted-zero r =
+    let six = numbers r in
+    ap isAccepted (sym (numbers-told r)) ∙ by-first (eqb (getD six 0 0) 0) (getD six 2 0) (refusalOf six)

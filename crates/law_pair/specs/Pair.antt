@@ -12,7 +12,8 @@ use Rattle.sheet.specs.Module.{dyn, func, TypeDef, struct, coroutine, Handler, 
 use Rattle.sheet.specs.Encode.{sheetOf}
 use Rattle.host.specs.Host.{hostsOf}
 use Rattle.table.specs.Records.{noHandler}
-use Rattle.law_linked.specs.Find.{sectionFrom, counted, afterCounted, hooksIn, canonIn, toCatch, catchFirst, afterCatch, afterFuncs, catchIn}
+use Rattle.law_linked.specs.Find.{sectionFrom, counted, afterCounted, hooksIn, canonIn}
+use Rattle.law_linked.specs.Find.{toCatch, catchFirst, afterCatch, afterFuncs, catchIn}
 use Rattle.descends.specs.Descends.{descends}
 use Rattle.load.specs.Load.{load, tableAfter, workAfter}
 use Rattle.renumber.specs.Renumber.{image, renumber, RenumberedSheet}

@@ -28,7 +28,8 @@ use Rattle.law_renumbering.specs.Setting.{moved}
 use Rattle.law_renumbering.specs.CodeRules.{func-known}
 use Rattle.law_renumbering.specs.AllRules.{rules-together}
 use Rattle.law_renumbering.specs.FamilyMoved.{descendant-moved}
-use Rattle.law_renumbering.specs.Accepting.{accepted-opening, opening-accepted, family-front, types-few, family-left, Holds, holds-front, holds-left}
+use Rattle.law_renumbering.specs.Accepting.{accepted-opening, opening-accepted, family-front, types-few}
+use Rattle.law_renumbering.specs.Accepting.{family-left, Holds, holds-front, holds-left}
 use Rattle.law_renumbering.specs.Statement.{Family, Call, LongEnough, accepts, leaves, Renumbered, Agree, Outcome}
 
 catch-image : (π : ℕ → ℕ) (f : Func) → catchTable (funcImage π f) ≡ catchTable f

@@ -72,7 +72,7 @@ fn with_most(
     load_with(sheet, hosts, table, work, index)
 }
 
-// It could call itself, so the compiler does not inline it: its large frame is on the stack only where it runs, and a short list takes little.
+// It could call itself, so it is not inlined: its large frame is on the stack only where it runs, and a short list takes little.
 fn load_most(sheet: &[u8], hosts: &[u8], table: &mut [u32], work: &mut [u32], left: usize) -> Loaded
     ensures { λ r. ⌜ r ≡ load (now (sheet .entry)) (now (hosts .entry)) (length (now (table .entry))) (length (now (work .entry))) ⌝ }
     ensures { λ r. ⌜ now (table .exit) ≡ tableAfter (now (sheet .entry)) (now (hosts .entry)) (now (table .entry)) (now (work .entry)) ⌝ }

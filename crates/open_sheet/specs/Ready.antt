@@ -48,7 +48,8 @@ pub record Entries {A : Type 0} (f : Reader A) (ws : List ℕ) (xs : List A) (w 
   pub room : base + length xs < length w
   pub member : (i : ℕ) (d : A) → i < length xs → f ws (posAt w base i) ≡ got (getD xs i d) (posAt w base (i + 1))
 
--- n words for the index, n for the strings' canonical numbers, n for the types', n for marks of strings, all zero between calls; n more are `Captured`'s; the rest is free
+-- n words for the index, n for the strings' canonical numbers, n for the types', n for marks of strings, all zero between calls;
+-- n more are `Captured`'s; the rest is free
 pub record Ready (ws w : List ℕ) (o : Opened) : Type 0 where
   pub opens : Opens ws o
   pub room : 64 + 8 * o .layout .words ≤ length w
