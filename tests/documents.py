@@ -117,6 +117,11 @@ def query(table, t, a):
     pre = lambda x: table[at + 1 + 2 * x]
     return int(max(t, a) < table[at] and pre(a) <= pre(t) < table[at + 2 + 2 * a])
 
+# FORMAT.md, "The size of a family"
+def size(table, a):
+    at = table[9]
+    return max(0, table[at + 2 + 2 * a] - table[at + 1 + 2 * a]) if a < table[at] else 0
+
 def example(sheet, words, table):
     found, check = words_in(sheet)
     compare(f'{FORMAT}: {words}', words_of(words), found)
@@ -138,6 +143,16 @@ def examples():
     for answer, pairs in ((1, yes), (0, no)):
         for t, a in re.findall(r'\((\d+), (\d+)\)', pairs):
             compare(f'the query on ({t}, {a})', query(table, int(t), int(a)), answer)
+    sizes = re.findall(r'type (\d+)(?: has)? size (\d+)', section('The size of a family'))
+    compare("the small tariff's sizes", [(a, str(size(table, int(a)))) for a, _ in sizes], sizes)
+    compare('how many of them', len(sizes), 4)
+
+# the lines of "The report" are what the program prints of that sheet and of a file that is not there
+def reported():
+    shown = re.search(r'no bytes: ((?:`[\d ]+`(?:, )?)+)\.', section('The report')).group(1)
+    stored = ROOT + '/crates/report/data'
+    r = subprocess.run([ROOT + '/target/bin/report', 'root-last', 'none'], cwd=stored, stdout=subprocess.PIPE, text=True)
+    compare(f'{FORMAT}: the lines of the report', re.findall('`(.*?)`', shown), r.stdout.splitlines())
 
 # ── tables ──
 
@@ -176,7 +191,8 @@ def kinds():
     found = {int(row[0]): row[1:3] for row in rows('The kinds')}
     compare(f'{FORMAT}: kinds', list(found), list(range(27)))
     table = re.findall(r'^\| (\d+) \| (.*?) \| \| (\d+) \| (.*?) \|$', text('README.md'), re.M)
-    said = {int(k): re.sub(r' \((word|number|number, second|family).*\)$', '', words) for row in table for k, words in (row[:2], row[2:])}
+    remark = r' \((word|number|number, second|`descends`).*\)$'
+    said = {int(k): re.sub(remark, '', words) for row in table for k, words in (row[:2], row[2:])}
     compare('the kinds of README.md are those of FORMAT.md', said, {k: means for k, (_, means) in found.items() if k})
     header = text('bindings/c/paqlluri.h')
     entries = {name: (int(number), words) for name, number, words in re.findall(r'PAQLLURI_(\w+) = (\d+),?(?: +/\* (.*?) \*/)?', header)}

@@ -1,6 +1,6 @@
 /*
  * Loads a sheet under a host list, prints the six numbers, then says of each pair of types whether one
- * descends from the other.
+ * descends from the other, and how many types do.
  *
  *     example SHEET HOSTS [T A]...
  *
@@ -57,11 +57,14 @@ static uint32_t type_number(const char *digits) {
 }
 
 static void print_families(const uint32_t *table, size_t words, int pairs, char **numbers) {
+    uint32_t size[PAQLLURI_COUNT_NUMBERS];
     int k;
     for (k = 0; k < pairs; k++) {
         const char *t = numbers[2 * k], *a = numbers[2 * k + 1];
         int yes = paqlluri_descends(table, words, type_number(t), type_number(a)) == 1;
+        paqlluri_family_size(table, words, type_number(a), size);
         printf("%s descends from %s: %s\n", t, a, yes ? "yes" : "no");
+        printf("types that descend from %s: %lu\n", a, (unsigned long)size[PAQLLURI_COUNT]);
     }
 }
 

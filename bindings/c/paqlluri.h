@@ -1,5 +1,5 @@
 /*
- * Paqlluri: loads bytecode modules of tariffs, and answers which type descends from which.
+ * Paqlluri: loads bytecode modules of tariffs, and answers which type descends from which, and how many do.
  *
  * Link target/staticlib/libpaqlluri.a, which `rt staticlib paqlluri` proves and writes (x86-64, System V ABI).
  * It needs memcpy and memset and nothing else: no heap, no files, no globals. The calls are reentrant, and
@@ -57,6 +57,13 @@ enum paqlluri_place {
     PAQLLURI_NUMBERS = 6   /* how many there are */
 };
 
+/* The two numbers of an answer that counts, by their place. */
+enum paqlluri_count_place {
+    PAQLLURI_COUNT_KIND = 0,   /* of enum paqlluri_kind: 0, or why nothing is counted */
+    PAQLLURI_COUNT = 1,        /* how many; 0 unless the kind is 0 */
+    PAQLLURI_COUNT_NUMBERS = 2 /* how many numbers there are */
+};
+
 /* Accepted, or why not. The first that holds, in the order of docs/FORMAT.md, "The order of answers". */
 enum paqlluri_kind {
     PAQLLURI_ACCEPTED = 0,              /* number: the words of the linked table */
@@ -84,7 +91,7 @@ enum paqlluri_kind {
     PAQLLURI_BAD_CALL_SHAPE = 22,       /* a call shape is wrong */
     PAQLLURI_BAD_HOST_LIST = 23,        /* the host list is broken or holds a pair twice */
     PAQLLURI_SHORT_SLICE = 24,          /* table or work is shorter than 64 + 8N words */
-    PAQLLURI_NOT_LINKED = 25,           /* not a linked table (paqlluri_descends only) */
+    PAQLLURI_NOT_LINKED = 25,           /* not a linked table (paqlluri_descends and paqlluri_family_size only) */
     PAQLLURI_MISSED_STRUCT = 26         /* never given */
 };
 
@@ -129,6 +136,19 @@ void paqlluri_load(const uint8_t *sheet, size_t sheet_len, const uint8_t *hosts,
  * or no type at all; 25 (PAQLLURI_NOT_LINKED) where the words are no linked table. A table may be longer than L.
  */
 uint32_t paqlluri_descends(const uint32_t *table, size_t table_len, uint32_t t, uint32_t a);
+
+/*
+ * How many types descend from type a, itself included. Kind 0 with that count, which is 0 where a is no struct type
+ * of the sheet or no type at all; 25 (PAQLLURI_NOT_LINKED) where the words are no linked table. A table may be longer
+ * than L. Of words that no load wrote the count is post - pre of the span, 0 where post is below pre.
+ */
+void paqlluri_family_size(const uint32_t *table, size_t table_len, uint32_t a, uint32_t answer[2]);
+
+/*
+ * How many struct types a sheet declares. Kind 0 with that count; 1 (PAQLLURI_DECODE) where the layout is broken.
+ * No rule is tried: a sheet that load refuses by a rule is counted.
+ */
+void paqlluri_count_structs(const uint8_t *sheet, size_t sheet_len, uint32_t answer[2]);
 
 #ifdef __cplusplus
 }

@@ -1,5 +1,8 @@
 /*
- * What the header says of pointers, lengths and lent words, tried on the empty sheet. Prints nothing where it holds.
+ * What the header says of pointers, lengths and lent words, tried on the empty sheet, and of families on samples/lifts.sheet.
+ * Prints nothing where it holds.
+ *
+ *     test LIFTS HOSTS
  */
 #include <stdio.h>
 #include <string.h>
@@ -8,6 +11,10 @@
 
 #define BEFORE 0xa5a5a5a5u
 #define ENOUGH (64 + 8 * 11)
+
+/* The families need more: samples/lifts.sheet has two blocks. */
+#define LIFTS_BYTES 1024
+#define LIFTS_WORDS PAQLLURI_WORDS(LIFTS_BYTES)
 
 static int wrong = 0;
 
@@ -52,13 +59,8 @@ static int untouched(uint32_t kind) {
            all(table, 0, ENOUGH + 1, BEFORE) && all(work, 0, ENOUGH + 1, BEFORE);
 }
 
-int main(void) {
-    static uint8_t sheet_room[PAQLLURI_BLOCK_BYTES + 1], hosts_room[PAQLLURI_BLOCK_BYTES + 1];
-    const uint8_t *sheet = block(sheet_room, 11, 56), *hosts = block(hosts_room, 3, 16);
+static void loads(const uint8_t *sheet, const uint8_t *hosts) {
     const size_t bytes = PAQLLURI_BLOCK_BYTES;
-
-    expect("lengths", PAQLLURI_WORDS(0) == 64 && PAQLLURI_WORDS(1024) == 64 + 8 * 254 && PAQLLURI_WORDS(SIZE_MAX) == 4161600 &&
-                          PAQLLURI_WORDS(512 * 4096) == 4161600);
     lend();
     paqlluri_load(sheet, bytes, hosts, bytes, table, ENOUGH, work, ENOUGH, answer);
     expect("the empty sheet", answer[PAQLLURI_KIND] == PAQLLURI_ACCEPTED && answer[PAQLLURI_WORD] == 0 && answer[PAQLLURI_NUMBER] == 49 &&
@@ -66,7 +68,8 @@ int main(void) {
     expect("its table", table[0] == 1 && table[1] == 49 && table[2] == 10 && table[48] == 0 && all(table, 49, ENOUGH + 1, BEFORE));
     expect("work after it", all(work, 0, ENOUGH, 0) && work[ENOUGH] == BEFORE);
     expect("no family", paqlluri_descends(table, 49, 0, 0) == 0 && paqlluri_descends(table, ENOUGH, UINT32_MAX, 0) == 0);
-    expect("no table", paqlluri_descends(table, 48, 0, 0) == PAQLLURI_NOT_LINKED && paqlluri_descends(NULL, 0, 0, 0) == PAQLLURI_NOT_LINKED);
+    expect("a word of it missing", paqlluri_descends(table, 48, 0, 0) == PAQLLURI_NOT_LINKED);
+    expect("no table", paqlluri_descends(NULL, 0, 0, 0) == PAQLLURI_NOT_LINKED);
 
     lend();
     paqlluri_load(NULL, 0, NULL, 0, NULL, 0, NULL, 0, answer);
@@ -81,5 +84,86 @@ int main(void) {
     expect("a word short", untouched(PAQLLURI_SHORT_SLICE));
     paqlluri_load(sheet, bytes, sheet, bytes, table, ENOUGH, work, ENOUGH, answer);
     expect("one slice as both", untouched(PAQLLURI_BAD_HOST_LIST));
+}
+
+/* Two numbers, and nothing behind them. */
+static int counted(const uint32_t *numbers, uint32_t kind, uint32_t count) {
+    return numbers[PAQLLURI_COUNT_KIND] == kind && numbers[PAQLLURI_COUNT] == count && numbers[PAQLLURI_COUNT_NUMBERS] == BEFORE;
+}
+
+static int sized(const uint32_t *words, size_t length, uint32_t a, uint32_t kind, uint32_t size) {
+    uint32_t numbers[PAQLLURI_COUNT_NUMBERS + 1] = {BEFORE, BEFORE, BEFORE};
+    paqlluri_family_size(words, length, a, numbers);
+    return counted(numbers, kind, size);
+}
+
+/* Lift; PassengerLift and GoodsLift below it; HydraulicGoodsLift below GoodsLift; three func types. The table is spoilt in the end. */
+static void sizes(uint32_t *lifts, size_t length) {
+    static const uint32_t expected[] = {4, 1, 2, 1, 0, 0, 0, 0, 0};
+    const size_t spans = lifts[9];
+    uint32_t a;
+    for (a = 0; a < sizeof expected / sizeof *expected; a++)
+        expect("the size of a family", sized(lifts, length, a, 0, expected[a]) && sized(lifts, lifts[1], a, 0, expected[a]));
+    expect("an unknown number", sized(lifts, length, UINT32_MAX, 0, 0) && sized(lifts, length, 0x80000000u, 0, 0));
+    expect("a word short", sized(lifts, lifts[1] - 1, 0, PAQLLURI_NOT_LINKED, 0) && sized(lifts, 9, 0, PAQLLURI_NOT_LINKED, 0));
+    expect("no words", sized(NULL, 0, 0, PAQLLURI_NOT_LINKED, 0) && sized(NULL, 0, UINT32_MAX, PAQLLURI_NOT_LINKED, 0));
+    expect("words of something else", sized(lifts + 1, length - 1, 0, PAQLLURI_NOT_LINKED, 0));
+    lifts[spans + 1] = lifts[spans + 2] + 1;
+    expect("post below pre", sized(lifts, length, 0, 0, 0) && sized(lifts, length, 2, 0, 2));
+    lifts[spans] = 0x80000000u;
+    expect("more spans than words", sized(lifts, length, 0, PAQLLURI_NOT_LINKED, 0));
+}
+
+static int counts(const uint8_t *sheet, size_t length, uint32_t kind, uint32_t count) {
+    uint32_t numbers[PAQLLURI_COUNT_NUMBERS + 1] = {BEFORE, BEFORE, BEFORE};
+    paqlluri_count_structs(sheet, length, numbers);
+    return counted(numbers, kind, count);
+}
+
+/* The sheet is spoilt in the end. */
+static void structs(const uint8_t *empty, uint8_t *lifts) {
+    expect("no struct", counts(empty, PAQLLURI_BLOCK_BYTES, 0, 0));
+    expect("four structs", counts(lifts, LIFTS_BYTES, 0, 4));
+    expect("no sheet", counts(NULL, 0, PAQLLURI_DECODE, 0));
+    expect("half a sheet", counts(lifts, LIFTS_BYTES / 2, PAQLLURI_DECODE, 0));
+    lifts[8] ^= 1;
+    expect("a broken sheet", counts(lifts, LIFTS_BYTES, PAQLLURI_DECODE, 0));
+}
+
+/* Whether the file has just so many bytes. */
+static int read_file(const char *name, uint8_t *bytes, size_t length) {
+    FILE *file = fopen(name, "rb");
+    int whole = file != NULL && fread(bytes, 1, length, file) == length && fgetc(file) == EOF;
+    if (file != NULL)
+        fclose(file);
+    return whole;
+}
+
+static void families(const uint8_t *empty, const char *sheet_name, const char *hosts_name) {
+    static uint8_t sheet[LIFTS_BYTES], hosts[PAQLLURI_BLOCK_BYTES];
+    static uint32_t lifts[LIFTS_WORDS], room[LIFTS_WORDS];
+    if (!read_file(sheet_name, sheet, sizeof sheet) || !read_file(hosts_name, hosts, sizeof hosts)) {
+        expect("the sheet of the lifts and its host list", 0);
+        return;
+    }
+    paqlluri_load(sheet, sizeof sheet, hosts, sizeof hosts, lifts, LIFTS_WORDS, room, LIFTS_WORDS, answer);
+    expect("the lifts", answer[PAQLLURI_KIND] == PAQLLURI_ACCEPTED && answer[PAQLLURI_NUMBER] == 167);
+    if (wrong)
+        return;
+    sizes(lifts, LIFTS_WORDS);
+    structs(empty, sheet);
+}
+
+int main(int argc, char **argv) {
+    static uint8_t sheet_room[PAQLLURI_BLOCK_BYTES + 1], hosts_room[PAQLLURI_BLOCK_BYTES + 1];
+    const uint8_t *sheet = block(sheet_room, 11, 56), *hosts = block(hosts_room, 3, 16);
+    if (argc != 3) {
+        fprintf(stderr, "usage: test LIFTS HOSTS\n");
+        return 2;
+    }
+    expect("lengths", PAQLLURI_WORDS(0) == 64 && PAQLLURI_WORDS(1024) == 64 + 8 * 254 && PAQLLURI_WORDS(SIZE_MAX) == 4161600 &&
+                          PAQLLURI_WORDS(512 * 4096) == 4161600);
+    loads(sheet, hosts);
+    families(sheet, argv[1], argv[2]);
     return wrong;
 }

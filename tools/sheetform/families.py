@@ -116,21 +116,27 @@ def line(families, t):
     remark = families.remark(t)
     return ': '.join(parts) + (f' [{remark}]' if remark else '')
 
-# the branches before a type: of each ancestor below the root whether another child of the same parent follows
-def tree(families):
-    lines, open_ = [], []
+# each type with the branches before it: of each ancestor below the root whether another child of the same parent follows
+def branches(families):
+    open_ = []
     last = {children[-1] for children in families.children.values() if children}
     for t, depth in families.walk:
         if depth == 0:
-            lines += [''] if lines else []
-            lines.append(line(families, t))
+            yield t, ''
             open_ = []
             continue
         # branches over the longest chain that is accepted are not drawn
         open_ = open_[:min(depth, CHAIN) - 1]
         before = ''.join('│  ' if follows else '   ' for follows in open_)
-        lines.append(f'{before}{"└─" if t in last else "├─"} {line(families, t)}')
+        yield t, f'{before}{"└─" if t in last else "├─"} '
         open_.append(t not in last)
+
+# an empty line between families
+def tree(families):
+    lines = []
+    for t, before in branches(families):
+        lines += [''] if lines and not before else []
+        lines.append(before + line(families, t))
     return lines
 
 def shown(module):

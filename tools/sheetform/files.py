@@ -26,6 +26,9 @@ def ended(tool, main):
         return main()
     except KeyboardInterrupt:
         return 130
+    # who reads has enough
+    except BrokenPipeError:
+        return 141
     except Failed as failed:
         say(tool, failed)
     except Exception as fault:
@@ -85,6 +88,8 @@ def deliver(path, data):
                 f.write(data)
         else:
             replace(os.path.realpath(path), data)
+    except BrokenPipeError:
+        raise
     except (OSError, ValueError) as e:
         raise Failed(f'{"standard output" if path in (None, "-") else path}: {getattr(e, "strerror", None) or e}') from None
 

@@ -39,27 +39,52 @@ WANTED = ['a struct', 'an array', 'a map', 'a cell']
 def empty_list():
     return b'\1\0\0\0\3\0\0\0' + bytes(500) + b'\20\0\0\0'
 
-# the six numbers, and the words of the linked table where they are asked for and the sheet is accepted
-def load(tool, sheet, hosts, table=False):
-    program, rests_on = native.program(tool)
-    with tempfile.TemporaryDirectory() as folder:
-        with open(folder + '/hosts', 'wb') as f:
+class Loader:
+    """The loader under one host list, for any number of sheets."""
+    def __init__(self, tool, hosts, say=say):
+        self.tool, self.say = tool, say
+        self.program, self.rests_on = native.program(tool)
+        self.folder = tempfile.TemporaryDirectory()
+        self.hosts = self.folder.name + '/hosts'
+        with open(self.hosts, 'wb') as f:
             f.write(hosts)
-        done = subprocess.run([program, *(['--table'] if table else []), '-', folder + '/hosts'], input=sheet, stdout=subprocess.PIPE)
-    words = done.stdout.split()
-    if done.returncode not in (0, 1) or not all(map(bytes.isdigit, words)):
-        raise Failed(f'no verdict: {program} ended with status {done.returncode} and printed {done.stdout[:200]!r}; {native.AGAIN}')
-    found = answer(program, done.returncode, list(map(int, words)), table)
-    if rests_on:
-        say(tool, rests_on)
-    return found
+
+    def __enter__(self):
+        return self
+
+    def __exit__(self, *_):
+        self.folder.cleanup()
+
+    # the six numbers and, where the sheet is accepted, the words of what is asked for: --table, --families or nothing
+    def load(self, sheet, *asked):
+        done = subprocess.run([self.program, *asked, '-', self.hosts], input=sheet, stdout=subprocess.PIPE)
+        words = done.stdout.split()
+        if done.returncode not in (0, 1) or not all(map(bytes.isdigit, words)):
+            ended = f'{self.program} ended with status {done.returncode} and printed {done.stdout[:200]!r}'
+            raise Failed(f'no verdict: {ended}; {native.AGAIN}')
+        found = answer(self.program, done.returncode, list(map(int, words)), *asked)
+        if self.rests_on:
+            self.say(self.tool, self.rests_on)
+            self.rests_on = None
+        return found
+
+# of one sheet
+def load(tool, sheet, hosts, *asked):
+    with Loader(tool, hosts) as loader:
+        return loader.load(sheet, *asked)
 
 # status and length must be those of the kind: half an answer is none
-def answer(program, status, words, table):
+def answer(program, status, words, *asked):
     numbers, rest = words[:6], words[6:]
-    if len(numbers) < 6 or status != (1 if numbers[0] else 0) or len(rest) != (numbers[2] if table and numbers[0] == 0 else 0):
+    if len(numbers) < 6 or status != (1 if numbers[0] else 0) or not whole(numbers, rest, *asked):
         raise Failed(f'no verdict: {program} ended with status {status} and printed {len(words)} numbers, first {numbers}')
     return numbers, rest
+
+# a linked table has L words; families are a kind and a number of struct types, then a type and a size for each
+def whole(numbers, rest, asked=None):
+    if numbers[0] == 0 and asked == '--families':
+        return len(rest) >= 2 and rest[0] == 0 and len(rest) == 2 + 2 * rest[1]
+    return len(rest) == (numbers[2] if numbers[0] == 0 and asked == '--table' else 0)
 
 # the strings of an intact sheet: its first part, after edition and N
 def strings(sheet):

@@ -1,5 +1,6 @@
 //! Loads a sheet under a host list, prints the six numbers, then says of each pair of types whether one
-//! descends from the other: `load SHEET HOSTS [T A]...`. Exit status: 0 accepted, 1 refused, 2 not tried.
+//! descends from the other, and how many types do: `load SHEET HOSTS [T A]...`.
+//! Exit status: 0 accepted, 1 refused, 2 not tried.
 
 use std::env;
 use std::fs;
@@ -44,6 +45,7 @@ fn judge(sheet: &[u8], hosts: &[u8], pairs: &[[TypeId; 2]]) -> ExitCode {
             for &[t, a] in pairs {
                 let answer = if linked.descends(t, a) { "yes" } else { "no" };
                 println!("{} descends from {}: {answer}", t.0, a.0);
+                println!("types that descend from {}: {}", a.0, linked.family_size(a));
             }
             ExitCode::SUCCESS
         }

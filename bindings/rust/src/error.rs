@@ -373,3 +373,26 @@ impl fmt::Display for LoadError {
 }
 
 impl Error for LoadError {}
+
+/// The sheet's layout is broken: kind 1.
+#[derive(Clone, Copy, Debug, PartialEq, Eq, Hash)]
+pub struct BrokenLayout;
+
+impl fmt::Display for BrokenLayout {
+    fn fmt(&self, f: &mut fmt::Formatter<'_>) -> fmt::Result {
+        LoadErrorKind::Decode.fmt(f)
+    }
+}
+
+impl Error for BrokenLayout {}
+
+/// So that `?` takes both where a sheet is counted and loaded.
+impl From<BrokenLayout> for LoadError {
+    fn from(_: BrokenLayout) -> LoadError {
+        LoadError {
+            kind: LoadErrorKind::Decode,
+            func: None,
+            pc: None,
+        }
+    }
+}

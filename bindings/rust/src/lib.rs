@@ -2,7 +2,7 @@
 //!
 //! [`load`] takes the bytes of a sheet and of a host list, which nobody need check first, and either
 //! refuses the sheet ([`LoadError`]) or writes its linked table into a borrowed slice ([`Linked`]).
-//! [`Linked::descends`] then says which type belongs to which family.
+//! [`Linked::descends`] then says which type belongs to which family, and [`Linked::family_size`] how many do.
 //!
 //! ```
 //! use paqlluri::{load, table_words, work_words, TypeId};
@@ -20,6 +20,7 @@
 //! let (lift, passenger, goods, hydraulic) = (TypeId(0), TypeId(1), TypeId(2), TypeId(3));
 //! assert!(linked.descends(hydraulic, goods) && linked.descends(hydraulic, lift));
 //! assert!(!linked.descends(hydraulic, passenger));
+//! assert_eq!(linked.family_size(goods), 2);
 //! # Ok(())
 //! # }
 //! ```
@@ -39,7 +40,7 @@ pub mod raw;
 use core::error::Error;
 use core::fmt;
 
-pub use error::{FuncId, LoadError, LoadErrorKind, StrId, TypeKind, What};
+pub use error::{BrokenLayout, FuncId, LoadError, LoadErrorKind, StrId, TypeKind, What};
 
 /// The version of this crate and of the calls, as in CHANGELOG.md.
 pub const VERSION: &str = env!("CARGO_PKG_VERSION");
@@ -112,6 +113,29 @@ pub fn load<'a>(
     }
 }
 
+/// How many struct types a sheet declares.
+///
+/// No rule is tried, so that a sheet which [`load`] refuses by a rule is counted too.
+///
+/// # Errors
+///
+/// [`BrokenLayout`], which is kind 1, where the layout is broken.
+///
+/// ```
+/// use paqlluri::{count_structs, BrokenLayout};
+/// # let sheet = include_bytes!(concat!(env!("CARGO_MANIFEST_DIR"), "/../../samples/lifts.sheet"));
+///
+/// assert_eq!(count_structs(sheet), Ok(4));
+/// assert_eq!(count_structs(b"any bytes may come"), Err(BrokenLayout));
+/// ```
+pub fn count_structs(sheet: &[u8]) -> Result<u32, BrokenLayout> {
+    match raw::count_structs(sheet) {
+        [0, count] => Ok(count),
+        // There is no other kind than 0 and 1.
+        _ => Err(BrokenLayout),
+    }
+}
+
 /// A linked table: the words that [`load`] wrote, or stored ones.
 #[derive(Clone, Copy, Debug, PartialEq, Eq)]
 pub struct Linked<'a> {
@@ -121,8 +145,9 @@ pub struct Linked<'a> {
 impl<'a> Linked<'a> {
     /// A stored table, which may have further words after it.
     ///
-    /// What is looked at is what the family query relies on: the first word, the length, and where the spans stand.
-    /// Whether [`load`] wrote the rest is not known; any answer of [`descends`](Self::descends) is then one about these words.
+    /// What is looked at is what the family queries rely on: the first word, the length, and where the spans stand.
+    /// Whether [`load`] wrote the rest is not known; any answer of [`descends`](Self::descends) and
+    /// [`family_size`](Self::family_size) is then one about these words.
     ///
     /// # Errors
     ///
@@ -154,6 +179,33 @@ impl<'a> Linked<'a> {
     #[must_use]
     pub fn descends(&self, t: TypeId, a: TypeId) -> bool {
         raw::descends(self.words, t.0, a.0) == 1
+    }
+
+    /// How many types descend from type `a`, itself included.
+    ///
+    /// From numbers that are no struct type of the sheet, or no type at all, none does. The sizes of the types without
+    /// a parent add up to [`count_structs`] of the sheet.
+    ///
+    /// ```
+    /// # use paqlluri::{load, LoadError, TypeId};
+    /// # fn main() -> Result<(), LoadError> {
+    /// # let sheet = include_bytes!(concat!(env!("CARGO_MANIFEST_DIR"), "/../../samples/lifts.sheet"));
+    /// # let hosts = include_bytes!(concat!(env!("CARGO_MANIFEST_DIR"), "/../../samples/hosts"));
+    /// # let (mut table, mut work) = ([0; 4096], [0; 4096]);
+    /// let linked = load(sheet, hosts, &mut table, &mut work)?;
+    /// // Lift, PassengerLift, GoodsLift and HydraulicGoodsLift below that; a func type; no type.
+    /// let sizes = [0, 1, 2, 3, 4, 99].map(|a| linked.family_size(TypeId(a)));
+    /// assert_eq!(sizes, [4, 1, 2, 1, 0, 0]);
+    /// # Ok(())
+    /// # }
+    /// ```
+    #[must_use]
+    // Two words that are written and then popped as one cost more than the query.
+    #[inline]
+    pub fn family_size(&self, a: TypeId) -> u32 {
+        // These words are a linked table, so the kind is 0.
+        let [_, size] = raw::family_size(self.words, a.0);
+        size
     }
 }
 

@@ -1,6 +1,6 @@
-//! The two calls with the numbers of the answers as they are.
+//! The calls with the numbers of the answers as they are.
 //!
-//! [`load`](crate::load) and [`Linked`](crate::Linked) say the same in types.
+//! [`load`](crate::load), [`Linked`](crate::Linked) and [`count_structs`](crate::count_structs) say the same in types.
 
 #![allow(unsafe_code)]
 
@@ -19,6 +19,15 @@ mod ffi {
         );
 
         pub fn paqlluri_descends(table: *const u32, table_len: usize, t: u32, a: u32) -> u32;
+
+        pub fn paqlluri_family_size(
+            table: *const u32,
+            table_len: usize,
+            a: u32,
+            answer: *mut [u32; 2],
+        );
+
+        pub fn paqlluri_count_structs(sheet: *const u8, sheet_len: usize, answer: *mut [u32; 2]);
     }
 }
 
@@ -51,4 +60,23 @@ pub fn load(sheet: &[u8], hosts: &[u8], table: &mut [u32], work: &mut [u32]) -> 
 pub fn descends(table: &[u32], t: u32, a: u32) -> u32 {
     // SAFETY: pointer and length are a slice's, and the function reads any words within it alone.
     unsafe { ffi::paqlluri_descends(table.as_ptr(), table.len(), t, a) }
+}
+
+/// How many types descend from type `a`, itself included: 0 and the size, or 25 and 0 where the words are no linked table.
+#[must_use]
+#[inline]
+pub fn family_size(table: &[u32], a: u32) -> [u32; 2] {
+    let mut answer = [0; 2];
+    // SAFETY: pointer and length are a slice's; the function reads any words within it alone, and writes the answer.
+    unsafe { ffi::paqlluri_family_size(table.as_ptr(), table.len(), a, &raw mut answer) }
+    answer
+}
+
+/// How many struct types a sheet declares: 0 and the count, or 1 and 0 where the layout is broken.
+#[must_use]
+pub fn count_structs(sheet: &[u8]) -> [u32; 2] {
+    let mut answer = [0; 2];
+    // SAFETY: pointer and length are a slice's; the function reads any bytes within it alone, and writes the answer.
+    unsafe { ffi::paqlluri_count_structs(sheet.as_ptr(), sheet.len(), &raw mut answer) }
+    answer
 }

@@ -1,8 +1,8 @@
 //! The library on the samples, on wrong words, and on a small stack.
 
 use paqlluri::{
-    load, table_words, work_words, Linked, LoadError, LoadErrorKind, NotLinked, StrId, TypeId,
-    MOST_WORDS,
+    count_structs, load, raw, table_words, work_words, BrokenLayout, Linked, LoadError,
+    LoadErrorKind, NotLinked, StrId, TypeId, MOST_WORDS,
 };
 
 const EMPTY: &[u8] = include_bytes!("../../../samples/empty.sheet");
@@ -58,6 +58,62 @@ fn the_lifts_are_accepted_and_have_families() {
         }
     }
     assert!(!linked.descends(TypeId(u32::MAX), TypeId(u32::MAX)));
+}
+
+#[test]
+fn the_lifts_families_have_sizes() {
+    let (_, [mut table, _]) = tried(LIFTS, HOSTS, table_words(LIFTS.len()));
+    let expected = [4, 1, 2, 1, 0, 0, 0, 0, 0];
+    let linked = Linked::from_words(&table).expect("a linked table");
+    for (a, size) in (0..).zip(expected) {
+        assert_eq!(linked.family_size(TypeId(a)), size, "{a}");
+        assert_eq!(raw::family_size(&table, a), [0, size], "{a}");
+        // As many as descend from it by the other query.
+        let below = (0..9).filter(|&t| linked.descends(TypeId(t), TypeId(a)));
+        assert_eq!(below.count(), size as usize, "{a}");
+    }
+    assert_eq!(linked.family_size(TypeId(u32::MAX)), 0);
+    // Lift is the only root.
+    assert_eq!(count_structs(LIFTS), Ok(linked.family_size(TypeId(0))));
+    for words in [&[][..], &table[..9], &table[..166], &table[1..]] {
+        assert_eq!(raw::family_size(words, 0), [25, 0]);
+        assert_eq!(raw::family_size(words, u32::MAX), [25, 0]);
+    }
+    // Post of Lift below its pre, on words that no load wrote.
+    let pre = table[9] as usize + 1;
+    table[pre] = 5;
+    assert_eq!(raw::family_size(&table, 0), [0, 0]);
+    assert_eq!(raw::family_size(&table, 2), [0, 2]);
+}
+
+#[test]
+fn structs_are_counted_from_the_declarations() {
+    // A type is its own parent in the last one: no rule is tried.
+    for (sheet, structs) in [(EMPTY, 0), (LIFTS, 4), (SELF_PARENT, 1)] {
+        assert_eq!(count_structs(sheet), Ok(structs));
+        assert_eq!(raw::count_structs(sheet), [0, structs]);
+    }
+    for sheet in [&[][..], &LIFTS[..512], &LIFTS[1..], HOSTS] {
+        assert_eq!(count_structs(sheet), Err(BrokenLayout));
+        assert_eq!(raw::count_structs(sheet), [1, 0]);
+    }
+}
+
+/// The size of the first family and the count of all structs, by one `?` for both calls.
+fn loaded_and_counted(sheet: &[u8]) -> Result<[u32; 2], LoadError> {
+    let structs = count_structs(sheet)?;
+    let (mut table, mut work) = ([0; 4096], [0; 4096]);
+    let linked = load(sheet, HOSTS, &mut table, &mut work)?;
+    Ok([linked.family_size(TypeId(0)), structs])
+}
+
+#[test]
+fn a_broken_layout_is_one_to_load_too() {
+    assert_eq!(loaded_and_counted(LIFTS), Ok([4, 4]));
+    let error = loaded_and_counted(&LIFTS[1..]).expect_err("no sheet");
+    assert_eq!(error.numbers(), [1, 0, 0, 0, 0, 0]);
+    assert_eq!(Err(error), tried(&LIFTS[1..], HOSTS, 4096).0);
+    assert_eq!(error.to_string(), BrokenLayout.to_string());
 }
 
 #[test]

@@ -50,17 +50,17 @@ family-asked m table f = record {
 }
 
 -- no rule is broken, and the words are the linked table and a rest
-record Fronted (m : Module) (hs : List HostFn) (l : ℕ) (words : List ℕ) : Type 0 where
-  faultless : moduleFaults mostOnChain hs m ≡ []
-  fronts : words ≡ tableWords mostOnChain hs m ++ drop l words
+pub record Fronted (m : Module) (hs : List HostFn) (l : ℕ) (words : List ℕ) : Type 0 where
+  pub faultless : moduleFaults mostOnChain hs m ≡ []
+  pub fronts : words ≡ tableWords mostOnChain hs m ++ drop l words
 
 module _ (sheet hosts table work : List ℕ) (l : ℕ) (left workLeft : List ℕ)
     (c : Loads sheet hosts table work (Accepted l) left workLeft) where
-  links : Links sheet hosts (length table) (length work) l
+  pub links : Links sheet hosts (length table) (length work) l
   links = (accepted sheet hosts (length table) (length work) l) .0 (sym (c .answers))
 
   -- of any words that begin so
-  fronted : (m : Module) (hs : List HostFn) → decode sheet ≡ some m → decodeHosts hosts ≡ some hs → (words : List ℕ) →
+  pub fronted : (m : Module) (hs : List HostFn) → decode sheet ≡ some m → decodeHosts hosts ≡ some hs → (words : List ℕ) →
       Begins l left words → Fronted m hs l words
   unfolding Begins
   fronted m hs d o words b =

@@ -1,11 +1,18 @@
-// What is claimed of the calls is what their contracts say: each call of load is `Loads`, each query is `Asks`.
+// What is claimed of the calls is what their contracts say: each call of load is `Loads`, each family query is `Asks`, and so on.
 ghost use Rattle.calls.specs.Calls.{Loads, LoadsNumbers, Asks};
+ghost use Rattle.family_calls.specs.FamilyCalls.{AsksSize, AsksSizeNumbers, CountsStructs, CountsNumbers};
+use descends::FamilySize;
 use error::Loaded;
 use error::TypeId;
+use families::StructCount;
+use family_sheets::count_structs;
 use loader::load;
+use paqlluri::paqlluri_count_structs;
 use paqlluri::paqlluri_descends;
+use paqlluri::paqlluri_family_size;
 use paqlluri::paqlluri_load;
 use query::descends;
+use query::family_size;
 
 pub fn call(sheet: &[u8], hosts: &[u8], table: &mut [u32], work: &mut [u32]) -> Loaded
     ensures { λ r. ⌜ Loads (now (sheet .entry)) (now (hosts .entry)) (now (table .entry)) (now (work .entry))
@@ -18,6 +25,18 @@ pub fn ask(table: &[u32], t: TypeId, a: TypeId) -> u32
     ensures { λ r. ⌜ Asks (now (table .entry)) (t .0) (a .0) r ⌝ }
 {
     descends(table, t, a)
+}
+
+pub fn ask_size(table: &[u32], a: TypeId) -> FamilySize
+    ensures { λ r. ⌜ AsksSize (now (table .entry)) (a .0) r ⌝ }
+{
+    family_size(table, a)
+}
+
+pub fn count(sheet: &[u8]) -> StructCount
+    ensures { λ r. ⌜ CountsStructs (now (sheet .entry)) r ⌝ }
+{
+    count_structs(sheet)
 }
 
 // The same of the calls for C and Rust.
@@ -38,4 +57,16 @@ pub fn ask_number(table: &[u32], t: u32, a: u32) -> u32
     ensures { λ r. ⌜ Asks (now (table .entry)) t a r ⌝ }
 {
     paqlluri_descends(table, t, a)
+}
+
+pub fn ask_size_numbers(table: &[u32], a: u32, answer: &mut [u32; 2])
+    ensures { λ r. ⌜ AsksSizeNumbers (now (table .entry)) a (now (answer .exit)) ⌝ }
+{
+    paqlluri_family_size(table, a, answer);
+}
+
+pub fn count_numbers(sheet: &[u8], answer: &mut [u32; 2])
+    ensures { λ r. ⌜ CountsNumbers (now (sheet .entry)) (now (answer .exit)) ⌝ }
+{
+    paqlluri_count_structs(sheet, answer);
 }

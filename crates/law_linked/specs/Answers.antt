@@ -69,7 +69,7 @@ module _ (most : ℕ) (hosts : List HostFn) (m : Module) (rest : List ℕ) where
   unfolding tableWords sections
   span-word i h = section-word earlier (spanSection most m) [] refl rest i (omega (arith, spanSection-length most m))
 
-  span-count : spanCount left ≡ length (m .types)
+  pub span-count : spanCount left ≡ length (m .types)
   unfolding spanCount spanSection
   span-count = ap (λ (k : ℕ). getD left k 0) (spans-start ∙ omega arith) ∙ span-word 0 (omega arith)
 
@@ -94,7 +94,7 @@ module _ (most : ℕ) (hosts : List HostFn) (m : Module) (rest : List ℕ) where
   spans-end = omega (arith, spans-start, span-count, table-end, whole-length)
 
   -- never 25
-  linked : isLinked left ≡ true
+  pub linked : isLinked left ≡ true
   unfolding isLinked
   linked = both (both (both (both
       (le-leb headerWords (length left) (omega (arith, left-length)))
@@ -127,11 +127,11 @@ module _ (most : ℕ) (hosts : List HostFn) (m : Module) (rest : List ℕ) where
     unknown : (t : ℕ) → length (m .types) ≤ t → ltb t (spanCount left) ≡ false
     unknown t h = le-ltb t (spanCount left) (omega (arith, span-count))
 
-    struct-pre : (t : ℕ) → isStruct (typeAt (m .types) t) ≡ true → preIn left t ≡ pre most (m .types) t
+    pub struct-pre : (t : ℕ) → isStruct (typeAt (m .types) t) ≡ true → preIn left t ≡ pre most (m .types) t
     unfolding spanOf
     struct-pre t s = pre-word t (struct-known (m .types) t s) ∙ ap (λ (b : Bool). getD (spanOf most (m .types) t b) 0 0) s
 
-    struct-post : (t : ℕ) → isStruct (typeAt (m .types) t) ≡ true → postIn left t ≡ post most (m .types) t
+    pub struct-post : (t : ℕ) → isStruct (typeAt (m .types) t) ≡ true → postIn left t ≡ post most (m .types) t
     unfolding spanOf
     struct-post t s = post-word t (struct-known (m .types) t s) ∙ ap (λ (b : Bool). getD (spanOf most (m .types) t b) 1 0) s
 
@@ -139,7 +139,7 @@ module _ (most : ℕ) (hosts : List HostFn) (m : Module) (rest : List ℕ) where
     unfolding spanOf
     other-pre t h s = pre-word t h ∙ ap (λ (b : Bool). getD (spanOf most (m .types) t b) 0 0) s
 
-    other-post : (t : ℕ) → t < length (m .types) → isStruct (typeAt (m .types) t) ≡ false → postIn left t ≡ 0
+    pub other-post : (t : ℕ) → t < length (m .types) → isStruct (typeAt (m .types) t) ≡ false → postIn left t ≡ 0
     unfolding spanOf
     other-post t h s = post-word t h ∙ ap (λ (b : Bool). getD (spanOf most (m .types) t b) 1 0) s
 
@@ -171,7 +171,7 @@ module _ (most : ℕ) (hosts : List HostFn) (m : Module) (rest : List ℕ) where
     unfolding descendsBySpan
     spans-no-first t a s = ap (λ (x : Bool). x && isStruct (typeAt (m .types) a) && leb (pre most (m .types) a) (pre most (m .types) t) && ltb (pre most (m .types) t) (post most (m .types) a)) s
 
-    within : (t a : ℕ) (b c : Bool) → isStruct (typeAt (m .types) t) ≡ b → isStruct (typeAt (m .types) a) ≡ c → isWithin left t a ≡ descendsBySpan most (m .types) t a
+    pub within : (t a : ℕ) (b c : Bool) → isStruct (typeAt (m .types) t) ≡ b → isStruct (typeAt (m .types) a) ≡ c → isWithin left t a ≡ descendsBySpan most (m .types) t a
     within t a true true s u = within-both t a s u
     within t a false true s u = not-below t a s u (decLt t (length (m .types))) ∙ sym (spans-no-first t a s)
     within t a true false s u = not-above t a u (decLt a (length (m .types))) ∙ sym (spans-no-second t a u)

@@ -1,1 +1,2 @@
 pub mod QuerySteps
+pub mod SizeSteps

@@ -1,9 +1,11 @@
-// The family query on a linked table.
+// The queries on a linked table: who descends from whom, and how many do.
 ghost use mathlib.Core.Path.{_≡_};
 ghost use mathlib.Core.Bool.{true};
 ghost use Prim.Native.Nat.{_+_, _*_, _≤_, _<_};
 ghost use lib.ListN.{length, getD};
 ghost use Rattle.descends.specs.Descends.{spansStart, spanCount, isLinked, isWithin, descends};
+ghost use Rattle.descends.specs.Sizes.{widthIn, knownWidth, sizeIn};
+use descends::FamilySize;
 use error::TypeId;
 use region::at;
 
@@ -88,4 +90,40 @@ pub fn descends(table: &[u32], t: TypeId, a: TypeId) -> u32
         return 0;
     }
     25
+}
+
+// Post minus pre of a known type, the spans' count standing at start; on words that no load wrote post may be below pre.
+fn width_at(table: &[u32], start: usize, a: u32) -> u32
+    requires { ⌜ start ≡ spansStart (now table) ⌝ }
+    requires { ⌜ start + 2 + 2 * a < length (now table) ⌝ }
+    ensures { λ r. ⌜ r ≡ widthIn (now (table .entry)) a ⌝ }
+{
+    let own = start + 1 + 2 * a as usize;
+    let pre = table[own];
+    let post = table[own + 1];
+    if post < pre {
+        return 0;
+    }
+    post - pre
+}
+
+fn known_width(table: &[u32], a: u32) -> u32
+    requires { ⌜ isLinked (now table) ≡ true ⌝ }
+    ensures { λ r. ⌜ r ≡ knownWidth (now (table .entry)) a ⌝ }
+{
+    let start = at(table, 9);
+    if count_at(table, start) <= a as usize {
+        return 0;
+    }
+    width_at(table, start, a)
+}
+
+// How many types descend from a, itself included: 0 where a is no struct type or no type at all.
+pub fn family_size(table: &[u32], a: TypeId) -> FamilySize
+    ensures { λ r. ⌜ r ≡ sizeIn (now (table .entry)) (a .0) ⌝ }
+{
+    if is_linked(table) {
+        return FamilySize::Size(known_width(table, a.0));
+    }
+    FamilySize::NotLinked
 }

@@ -26,8 +26,8 @@ pub struct Difference {
 
 /// Holds a loader to the reference, and counts.
 pub struct Checker<'l, L> {
-    loader: &'l L,
-    table: Lent,
+    pub(crate) loader: &'l L,
+    pub(crate) table: Lent,
     work: Lent,
     pub tally: Tally,
 }
@@ -60,17 +60,25 @@ impl<'l, L: Loader> Checker<'l, L> {
     /// A case, whatever it came from.
     pub fn given(&mut self, rng: &mut Rng, case: &Case) -> Result<(), String> {
         self.tally.cases += 1;
-        match self.call(case)? {
-            (numbers, None) => self.tally.coverage.add_numbers(numbers, None),
-            (numbers, Some(program)) => {
-                let (sheet, _) = decode_sheet(&case.sheet).ok_or("accepted and not intact")?;
-                self.tally.coverage.add_numbers(numbers, Some(&sheet));
-                self.tally.accept(&case.sheet, numbers[2] as usize);
-                self.families(rng, &program, &sheet)?;
-                self.altered(rng)?;
-            }
+        let (numbers, program) = self.call(case)?;
+        let intact = decode_sheet(&case.sheet).map(|(sheet, _)| sheet);
+        let structs = self.count(&case.sheet, intact.as_ref())?;
+        let Some(program) = program else {
+            self.tally.coverage.add_numbers(numbers, None);
+            return self.foreign_size(rng);
+        };
+        let sheet = intact.ok_or("accepted and not intact")?;
+        self.tally.coverage.add_numbers(numbers, Some(&sheet));
+        self.tally.accept(&case.sheet, numbers[2] as usize);
+        self.families(rng, &program, &sheet)?;
+        self.altered(rng)?;
+        let of_roots = self.sizes(&sheet)?;
+        if of_roots != structs {
+            return Err(format!(
+                "the root families have {of_roots} types, the sheet {structs} structs"
+            ));
         }
-        Ok(())
+        self.altered_sizes(rng)
     }
 
     /// Pair `open_index` of a seed, as demand 3 says.
@@ -148,6 +156,14 @@ impl<'l, L: Loader> Checker<'l, L> {
             let last = words.len();
             return Err(format!("table word {place} is changed, {last} are written"));
         }
+        if self.table.is_overrun() {
+            return Err("a word beside the table is changed".to_string());
+        }
+        self.work_after(kind)
+    }
+
+    /// Work is zero, and as before after the kinds that touch nothing.
+    fn work_after(&self, kind: u32) -> Result<(), String> {
         let work = match kind {
             1 | 23 | 24 => self.work.changed_from(0),
             _ => self.work.now().iter().position(|&word| word != 0),
@@ -155,8 +171,8 @@ impl<'l, L: Loader> Checker<'l, L> {
         if let Some(place) = work {
             return Err(format!("work word {place} after kind {kind}"));
         }
-        if self.table.is_overrun() || self.work.is_overrun() {
-            return Err("a word beside table or work is changed".to_string());
+        if self.work.is_overrun() {
+            return Err(format!("a word beside work is changed after kind {kind}"));
         }
         Ok(())
     }

@@ -1,6 +1,7 @@
 //! A loader against the reference: every answer, every lent word, every family, case by case.
 
 mod checker;
+mod families;
 mod lent;
 mod loader;
 mod run;

@@ -60,7 +60,7 @@ fn cases(plan: &Plan) -> Result<String, String> {
     let start = Instant::now();
     let tally = run(&Library, plan).map_err(|found| keep(plan, &found))?;
     let seconds = start.elapsed().as_secs_f64();
-    let missed = tally.coverage.missed();
+    let missed = tally.missed();
     if plan.cases >= FULL_RUN && !missed.is_empty() {
         return Err(format!("no case has hit {}\n{tally}", missed.join(", ")));
     }

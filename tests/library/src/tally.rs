@@ -21,6 +21,12 @@ pub struct Tally {
     pub accepted_pairs: u64,
     pub other_kind_pairs: u64,
     pub queries: u64,
+    /// Sizes of families that were asked for, and those of them that are kind 25.
+    pub sizes: u64,
+    pub not_linked: u64,
+    /// Sheets whose structs were counted, and those of them that are kind 1.
+    pub counts: u64,
+    pub broken: u64,
 }
 
 impl Tally {
@@ -34,6 +40,29 @@ impl Tally {
     fn widen(&mut self, (few, many): (usize, usize)) {
         let (low, high) = self.blocks.unwrap_or((few, many));
         self.blocks = Some((low.min(few), high.max(many)));
+    }
+
+    pub fn add_size(&mut self, [kind, _]: [u32; 2]) {
+        self.sizes += 1;
+        self.not_linked += u64::from(kind == 25);
+    }
+
+    pub fn add_count(&mut self, [kind, _]: [u32; 2]) {
+        self.counts += 1;
+        self.broken += u64::from(kind == 1);
+    }
+
+    /// What no case has hit, in words.
+    pub fn missed(&self) -> Vec<String> {
+        let mut missed = self.coverage.missed();
+        let others = [
+            (self.counts - self.broken, "a count of kind 0"),
+            (self.broken, "a count of kind 1"),
+            (self.not_linked, "a size of kind 25"),
+        ];
+        let unmet = others.iter().filter(|(hits, _)| *hits == 0);
+        missed.extend(unmet.map(|(_, name)| (*name).to_string()));
+        missed
     }
 
     /// Adds what another part of the run has met.
@@ -50,6 +79,10 @@ impl Tally {
         self.accepted_pairs += other.accepted_pairs;
         self.other_kind_pairs += other.other_kind_pairs;
         self.queries += other.queries;
+        self.sizes += other.sizes;
+        self.not_linked += other.not_linked;
+        self.counts += other.counts;
+        self.broken += other.broken;
     }
 }
 
@@ -67,6 +100,16 @@ impl fmt::Display for Tally {
             self.pairs, self.accepted_pairs, self.other_kind_pairs
         )?;
         writeln!(f, "{} family queries agree", self.queries)?;
+        writeln!(
+            f,
+            "{} sizes of families agree, {} of them kind 25",
+            self.sizes, self.not_linked
+        )?;
+        writeln!(
+            f,
+            "{} counts of structs agree, {} of them kind 1",
+            self.counts, self.broken
+        )?;
         if self.left_out > 0 {
             writeln!(f, "{} cases left out: large host lists", self.left_out)?;
         }

@@ -17,17 +17,48 @@ type Alter = fn(&mut [u32; 6], &mut [u32], &mut [u32]);
 /// What is done to a family answer.
 type AlterQuery = fn(u32, u32, u32) -> u32;
 
-struct Wrong(Alter, AlterQuery);
+/// What is done to a family's size, given the table and the type.
+type AlterSize = fn(&mut [u32; 2], &[u32], u32);
+
+/// What is done to a count, given the sheet.
+type AlterCount = fn(&mut [u32; 2], &[u8]);
+
+struct Wrong {
+    load: Alter,
+    query: AlterQuery,
+    size: AlterSize,
+    count: AlterCount,
+}
+
+/// The library with nothing altered.
+const RIGHT: Wrong = Wrong {
+    load: |_, _, _| (),
+    query: |answer, _, _| answer,
+    size: |_, _, _| (),
+    count: |_, _| (),
+};
 
 impl Loader for Wrong {
     fn load(&self, sheet: &[u8], hosts: &[u8], table: &mut [u32], work: &mut [u32]) -> [u32; 6] {
         let mut numbers = Library.load(sheet, hosts, table, work);
-        self.0(&mut numbers, table, work);
+        (self.load)(&mut numbers, table, work);
         numbers
     }
 
     fn descends(&self, table: &[u32], t: u32, a: u32) -> u32 {
-        self.1(Library.descends(table, t, a), t, a)
+        (self.query)(Library.descends(table, t, a), t, a)
+    }
+
+    fn family_size(&self, table: &[u32], a: u32) -> [u32; 2] {
+        let mut answer = Library.family_size(table, a);
+        (self.size)(&mut answer, table, a);
+        answer
+    }
+
+    fn count_structs(&self, sheet: &[u8]) -> [u32; 2] {
+        let mut answer = Library.count_structs(sheet);
+        (self.count)(&mut answer, sheet);
+        answer
     }
 }
 
@@ -37,11 +68,20 @@ fn found<L: Loader>(loader: &L) -> Difference {
 
 /// What is said of the first case that differs.
 fn caught(alter: Alter) -> String {
-    found(&Wrong(alter, |answer, _, _| answer)).what
+    let load = alter;
+    found(&Wrong { load, ..RIGHT }).what
 }
 
-fn caught_query(alter: AlterQuery) -> String {
-    found(&Wrong(|_, _, _| (), alter)).what
+fn caught_query(query: AlterQuery) -> String {
+    found(&Wrong { query, ..RIGHT }).what
+}
+
+fn caught_size(size: AlterSize) -> String {
+    found(&Wrong { size, ..RIGHT }).what
+}
+
+fn caught_count(count: AlterCount) -> String {
+    found(&Wrong { count, ..RIGHT }).what
 }
 
 fn assert_says(what: &str, part: &str) {
@@ -50,8 +90,19 @@ fn assert_says(what: &str, part: &str) {
 
 #[test]
 fn the_library_is_not_caught() {
-    let tally = run(&Library, &PLAN).expect("no difference");
-    assert_eq!((tally.cases + tally.left_out, tally.pairs), (400, 100));
+    for tally in [run(&Library, &PLAN), run(&RIGHT, &PLAN)] {
+        let tally = tally.expect("no difference");
+        assert_eq!((tally.cases + tally.left_out, tally.pairs), (400, 100));
+        assert!(
+            tally.not_linked > 400 && tally.sizes > 3 * tally.not_linked,
+            "{tally}"
+        );
+        assert_eq!(tally.counts, tally.cases);
+        assert!(
+            tally.broken > 20 && tally.counts > 3 * tally.broken,
+            "{tally}"
+        );
+    }
 }
 
 #[test]
@@ -139,6 +190,87 @@ fn a_family_answer() {
     }
 }
 
+/// Pre and post of a known type, where the words are a linked table.
+fn span(table: &[u32], a: u32) -> Option<(u32, u32)> {
+    let [0, _] = Library.family_size(table, a) else {
+        return None;
+    };
+    let spans = table[9] as usize;
+    let own = spans + 1 + 2 * a as usize;
+    (a < table[spans]).then(|| (table[own], table[own + 1]))
+}
+
+#[test]
+fn a_size_of_a_family() {
+    let declared: [AlterSize; 5] = [
+        // One too small, of all and of types with others below them; one for what is no struct, and for what is no type.
+        |size, _, _| size[1] = size[1].saturating_sub(1),
+        |size, _, _| size[1] -= u32::from(size[1] > 1),
+        |size, _, _| size[1] = size[1].max(1),
+        |size, _, a| size[1] += u32::from(a == u32::MAX),
+        // What stands for no struct subtracted all the same.
+        |size, table, a| size[1] = span(table, a).map_or(0, |(pre, post)| post.wrapping_sub(pre)),
+    ];
+    for alter in declared {
+        assert_says(&caught_size(alter), "declared");
+    }
+}
+
+#[test]
+fn a_size_on_words_that_no_load_wrote() {
+    let altered: [AlterSize; 4] = [
+        // 25 missed, and given where post is below pre; a difference that wraps, and one that is turned round.
+        |size, table, _| size[0] *= u32::from(table.first() != Some(&1)),
+        |size, table, a| {
+            if span(table, a).is_some_and(|(pre, post)| post < pre && pre < u32::MAX) {
+                *size = [25, 0];
+            }
+        },
+        |size, table, a| {
+            if let Some((pre, post)) = span(table, a).filter(|&(pre, _)| pre < u32::MAX) {
+                size[1] = post.wrapping_sub(pre);
+            }
+        },
+        |size, table, a| {
+            if let Some((pre, post)) = span(table, a).filter(|&(pre, _)| pre < u32::MAX) {
+                size[1] = post.abs_diff(pre);
+            }
+        },
+    ];
+    for alter in altered {
+        assert_says(&caught_size(alter), "altered");
+    }
+    // On words that are no table at all.
+    assert_says(&caught_size(|size, _, _| size[0] = 0), "size of");
+}
+
+/// The kind of load's answer, with words enough, under the host list of the samples.
+fn loaded(sheet: &[u8]) -> u32 {
+    let words = paqlluri::table_words(sheet.len());
+    let hosts = include_bytes!("../../../samples/hosts");
+    Library.load(sheet, hosts, &mut vec![0; words], &mut vec![0; words])[0]
+}
+
+#[test]
+fn a_count_of_structs() {
+    let alters: [AlterCount; 6] = [
+        |count, _| count[1] += u32::from(count[0] == 0),
+        |count, _| count[1] = count[1].saturating_sub(1),
+        // A sheet that load refuses by a rule is not counted, nor are its structs; 1 and 0 are not told apart.
+        |count, sheet| {
+            if count[0] == 0 && loaded(sheet) != 0 {
+                *count = [1, 0];
+            }
+        },
+        |count, sheet| count[1] *= u32::from(loaded(sheet) == 0),
+        |count, _| count[0] = 0,
+        |count, _| *count = [1, 0],
+    ];
+    for alter in alters {
+        assert_says(&caught_count(alter), "structs: answered");
+    }
+}
+
 #[test]
 fn cheap_loaders() {
     let refuses_all: Alter = |n, _, _| *n = [1, 0, 0, 0, 0, 0];
@@ -157,8 +289,8 @@ fn cheap_loaders() {
 
 #[test]
 fn the_first_case_is_found_by_any_number_of_jobs() {
-    let alter: Alter = |n, _, _| n[2] ^= u32::from(n[0] == 21);
-    let wrong = Wrong(alter, |answer, _, _| answer);
+    let load: Alter = |n, _, _| n[2] ^= u32::from(n[0] == 21);
+    let wrong = Wrong { load, ..RIGHT };
     let one = run(&wrong, &PLAN).expect_err("a difference");
     for jobs in [2, 5] {
         let several = run(&wrong, &Plan { jobs, ..PLAN }).expect_err("a difference");

@@ -12,13 +12,18 @@ const STACK: usize = (96 + 16) * 1024;
 /// What the bindings say of any bytes.
 const MOST_STACK: usize = 2 * 1024 * 1024;
 
-/// The kind of the answer of a call on a thread with so much stack.
+/// What a call answers on a thread with so much stack.
+fn on<T: Send + 'static>(stack: usize, call: impl FnOnce() -> T + Send + 'static) -> T {
+    let thread = thread::Builder::new().stack_size(stack).spawn(call);
+    thread.expect("a thread").join().expect("an answer")
+}
+
+/// The kind of load's answer.
 fn kind_on(stack: usize, sheet: Vec<u8>, hosts: Vec<u8>) -> u32 {
     let words = paqlluri::table_words(sheet.len());
     let (mut table, mut work) = (vec![0; words], vec![0; words]);
     let call = move || Library.load(&sheet, &hosts, &mut table, &mut work);
-    let thread = thread::Builder::new().stack_size(stack).spawn(call);
-    thread.expect("a thread").join().expect("an answer")[0]
+    on(stack, call)[0]
 }
 
 /// A sheet of one chain of so many types.
@@ -44,6 +49,21 @@ fn the_longest_chains_fit_the_stack() {
     for (types, kind) in [(256, 0), (257, 17)] {
         assert_eq!(kind_on(STACK, chain(types), list(0)), kind);
     }
+}
+
+#[test]
+fn counts_and_sizes_fit_the_small_stack() {
+    for types in [256, 257, 100_000] {
+        let sheet = chain(types);
+        let count = move || Library.count_structs(&sheet);
+        assert_eq!(on(STACK, count), [0, types]);
+    }
+    let (sheet, hosts) = (chain(256), list(0));
+    let words = paqlluri::table_words(sheet.len());
+    let (mut table, mut work) = (vec![0; words], vec![0; words]);
+    Library.load(&sheet, &hosts, &mut table, &mut work);
+    let sizes = move || [0, 255, 256].map(|a| Library.family_size(&table, a));
+    assert_eq!(on(STACK, sizes), [[0, 256], [0, 1], [0, 0]]);
 }
 
 #[test]

@@ -6,13 +6,15 @@ use std::hint::black_box;
 use std::process::ExitCode;
 use std::time::Instant;
 
-use paqlluri::{load, table_words, Linked, TypeId};
+use paqlluri::{count_structs, load, table_words, Linked, TypeId};
 use shapes::{bytes, Shape, SHAPES};
 
 const USAGE: &str = "usage:
   speed                              every shape, five sizes each
   speed SHAPE                        one of them
   speed descends                     the family query
+  speed sizes                        the size of a family
+  speed report                       what the report asks of a sheet
   speed shapes                       their names and largest sizes
   speed ours|rust|none SHAPE N       one call, for a count of instructions";
 
@@ -40,6 +42,20 @@ impl Lent {
     fn ours(&mut self) -> Linked<'_> {
         let (sheet, hosts) = (black_box(&self.sheet), black_box(&self.hosts));
         load(sheet, hosts, &mut self.table, &mut self.work).expect("an accepted sheet")
+    }
+
+    fn counted(&self) -> u32 {
+        count_structs(black_box(&self.sheet)).expect("an intact sheet")
+    }
+
+    /// What the report asks: load, the size of every family, the structs counted.
+    fn reported(&mut self) -> (u64, u32) {
+        (all_sizes(&self.ours()), self.counted())
+    }
+
+    /// The sheet's own count of words.
+    fn words(&self) -> u32 {
+        u32::from_le_bytes(self.sheet[4..8].try_into().expect("four bytes"))
     }
 
     /// The reference: both files decoded, the registry of hosts, `Program::load`.
@@ -120,6 +136,47 @@ fn descends(shape: &Shape) {
     }
 }
 
+/// How many types a table has a span for.
+fn types(linked: &Linked) -> u32 {
+    let words = linked.words();
+    words[words[9] as usize]
+}
+
+/// The sizes of all families, added up.
+fn all_sizes(linked: &Linked) -> u64 {
+    let size = |a| u64::from(linked.family_size(TypeId(a)));
+    (0..types(linked)).map(size).sum()
+}
+
+/// Sizes of families spread through chains of 256, a million of them.
+fn size_queries(shape: &Shape) {
+    const QUERIES: u32 = 1_000_000;
+    for n in sizes(shape.most) {
+        let mut lent = Lent::new(shape, n);
+        let linked = lent.ours();
+        let size = |k: u32| linked.family_size(TypeId(k.wrapping_mul(2_654_435_761) % n as u32));
+        let time = least(|| (0..QUERIES).map(|k| u64::from(size(k))).sum::<u64>());
+        println!("| sizes | {n} | {:.1} |", time / f64::from(QUERIES));
+    }
+}
+
+/// What the report asks of a sheet, part by part, at five sizes, each four times the one before.
+fn report(shape: &Shape) {
+    for n in [256, 64, 16, 4, 1].map(|d| shape.most / d) {
+        let mut lent = Lent::new(shape, n);
+        let (blocks, words) = (lent.sheet.len() / sheets::BLOCK, lent.words());
+        let linked = lent.ours();
+        let (types, sized) = (types(&linked), least(|| all_sizes(&linked)));
+        let loaded = least(|| lent.ours().words().len());
+        let counted = least(|| lent.counted());
+        let all = least(|| lent.reported());
+        let [count_each, each] = [counted, all].map(|t| t / f64::from(words));
+        let [loaded, sized, counted, all] = [loaded, sized, counted, all].map(|t| t / 1e3);
+        let name = shape.name;
+        println!("| {name} | {types} | {blocks} | {loaded:.1} | {sized:.1} | {counted:.1} | {count_each:.1} | {all:.1} | {each:.1} |");
+    }
+}
+
 fn shape(name: &str) -> Option<&'static Shape> {
     SHAPES.iter().find(|s| s.name == name)
 }
@@ -138,6 +195,15 @@ fn run(args: &[String]) -> Option<()> {
             }
         }
         ["descends"] => descends(shape("chains")?),
+        ["sizes"] => size_queries(shape("chains")?),
+        ["report"] => {
+            println!(
+                "| shape | types | blocks | load µs | sizes µs | count µs | ns a word | all µs | ns a word |"
+            );
+            println!("|---|---|---|---|---|---|---|---|---|");
+            report(shape("ordinary")?);
+            report(shape("chains")?);
+        }
         ["shapes"] => SHAPES
             .iter()
             .for_each(|s| println!("  {} {}", s.name, s.most)),

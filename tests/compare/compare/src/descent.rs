@@ -2,12 +2,17 @@
 
 use sheets::{Sheet, TypeEntry};
 
-/// Whether both numbers are struct types and `a` is `t` or is reached from it by declared parents.
-pub fn descends_by_parents(sheet: &Sheet, t: u32, a: u32) -> bool {
-    let parent = |n: u32| match sheet.types.get(n as usize) {
+/// The parent that a struct type declares, if it declares one; none at all for what is no struct.
+pub(crate) fn parent_of(sheet: &Sheet, t: u32) -> Option<Option<u32>> {
+    match sheet.types.get(t as usize) {
         Some(TypeEntry::Struct { parent, .. }) => Some(*parent),
         _ => None,
-    };
+    }
+}
+
+/// Whether both numbers are struct types and `a` is `t` or is reached from it by declared parents.
+pub fn descends_by_parents(sheet: &Sheet, t: u32, a: u32) -> bool {
+    let parent = |n| parent_of(sheet, n);
     if parent(t).is_none() || parent(a).is_none() {
         return false;
     }

@@ -5,8 +5,8 @@ use std::io::Write;
 use std::process::ExitCode;
 
 use compare::{
-    answer, describe_case, line_of, read_cases, write_cases, Coverage, Options, StoredCase,
-    FULL_RUN,
+    answer, describe_case, hold_reports, line_of, read_cases, report, write_cases, Coverage,
+    Options, StoredCase, FULL_RUN,
 };
 use generator::case;
 use sheets::BLOCK;
@@ -17,6 +17,8 @@ const USAGE: &str = "usage:
   compare check FILE
   compare show FILE K
   compare numbers HOSTS SHEET...
+  compare report HOSTS FILE...
+  compare reports PROGRAM [--seed S] [--cases N]
   compare antt [--seed S] [--count N] [--max-words W]
 numbers are decimal; seed 1 by default";
 
@@ -70,18 +72,23 @@ fn run(args: &[String]) -> Option<Result<(), String>> {
             let lines: Vec<_> = lines.iter().map(|c| line_of(c) + "\n").collect();
             Some(print(&lines.concat()))
         }
-        "check" => match rest {
-            [file] => Some(check(file)),
-            _ => None,
-        },
-        "show" => match rest {
-            [file, k] => Some(show(file, k.parse().ok()?)),
-            _ => None,
-        },
-        "numbers" => match rest {
-            [hosts, sheets @ ..] if !sheets.is_empty() => Some(numbers(hosts, sheets)),
-            _ => None,
-        },
+        _ => on_files(command, rest),
+    }
+}
+
+/// The commands whose first argument is a file.
+fn on_files(command: &str, files: &[String]) -> Option<Result<(), String>> {
+    match (command, files) {
+        ("check", [file]) => Some(check(file)),
+        ("show", [file, k]) => Some(show(file, k.parse().ok()?)),
+        ("numbers", [_, _, ..]) => Some(numbers(&files[0], &files[1..])),
+        ("report", [hosts, sheets @ ..]) => Some(print_report(hosts, sheets)),
+        ("reports", [program, rest @ ..]) => {
+            let options = Options::read(rest, &["--seed", "--cases"])?;
+            let cases = options.number("--cases", FULL_RUN)?;
+            let held = hold_reports(program, options.number("--seed", 1)?, cases);
+            Some(held.and_then(|text| print(&text)))
+        }
         _ => None,
     }
 }
@@ -183,4 +190,12 @@ fn numbers(hosts: &str, sheets: &[String]) -> Result<(), String> {
         print(&format!("{path} {numbers}\n"))?;
     }
     Ok(())
+}
+
+/// The report on the families of files, as the program of that name is to print it; what cannot be read has no bytes.
+fn print_report(hosts: &str, files: &[String]) -> Result<(), String> {
+    let bytes = |path: &str| read_bytes(path).unwrap_or_default();
+    let files: Vec<_> = files.iter().map(|path| bytes(path)).collect();
+    let lines = report(&bytes(hosts), &files);
+    print(&(lines.join("\n") + "\n"))
 }

@@ -4,7 +4,7 @@ use sheets::{decode_hosts, decode_sheet};
 
 use crate::{Linked, StoredCase};
 
-fn spaced<T: ToString>(numbers: impl IntoIterator<Item = T>) -> String {
+pub(crate) fn spaced<T: ToString>(numbers: impl IntoIterator<Item = T>) -> String {
     let words: Vec<_> = numbers.into_iter().map(|n| n.to_string()).collect();
     words.join(" ")
 }

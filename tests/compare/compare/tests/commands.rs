@@ -22,7 +22,7 @@ fn file(name: &str) -> PathBuf {
 
 #[test]
 fn wrong_arguments_end_with_2() {
-    let wrong: [&[&str]; 11] = [
+    let wrong: [&[&str]; 14] = [
         &[],
         &["what"],
         &["coverage", "--seed"],
@@ -34,6 +34,9 @@ fn wrong_arguments_end_with_2() {
         &["show", "file"],
         &["antt", "--max-words", "127"],
         &["numbers", "hosts"],
+        &["report"],
+        &["reports"],
+        &["reports", "program", "--count", "1"],
     ];
     for args in wrong {
         assert_eq!(code(args), Some(2), "{args:?}");
@@ -98,4 +101,24 @@ fn numbers_of_a_sheet_under_a_host_list() {
     let line = format!("{sheet} 0 0 49 0 0 0\n");
     assert_eq!(stdout(&["numbers", hosts, sheet, sheet]), line.repeat(2));
     assert_eq!(code(&["numbers", hosts, "/nowhere/at/all"]), Some(1));
+}
+
+#[test]
+fn the_report_on_files() {
+    let samples = PathBuf::from(env!("CARGO_MANIFEST_DIR")).join("../../../samples");
+    let sample = |name: &str| samples.join(name).to_str().expect("text").to_string();
+    let (hosts, lifts, ring) = (
+        sample("hosts"),
+        sample("lifts.sheet"),
+        sample("self-parent.sheet"),
+    );
+    let families = "0 0 167 0 0 0\n0 4\n1 1\n2 2\n3 1\n";
+    let printed = stdout(&["report", &hosts, &lifts, "/nowhere/at/all", &ring, &lifts]);
+    let refused = "1 0 0 0 0 0\n17 0 0 0 0 0\n";
+    assert_eq!(printed, [families, refused, families, "8 16\n"].concat());
+    assert_eq!(
+        stdout(&["report", "/nowhere/at/all", &lifts]),
+        "23 0 0 0 0 0\n0 0\n"
+    );
+    assert_eq!(stdout(&["report", &hosts]), "0 0\n");
 }

@@ -1,16 +1,19 @@
-//! Descent by spans, by the Rust's own test and by declared parents, on generated sheets.
+//! Descent and the sizes of families by spans, by the Rust's own test and by declared parents, on generated sheets.
 
 use bvm_lang::{descends, table_words};
-use compare::{asked_numbers, descends_by_parents, load, query};
+use compare::{asked_numbers, descends_by_parents, family_sizes, load, query, size_in};
 use generator::{case, valid, Draft, Rng, Scale};
 use sheets::{decode_sheet, encode_hosts, encode_sheet, Sheet};
 
-/// Compares the three tests for all pairs of numbers; false when the sheet is refused.
+/// Compares the sizes of all families, and the three tests for all pairs of numbers; false when the sheet is refused.
 fn agree(rng: &mut Rng, sheet: &Sheet, bytes: &[u8], hosts: &[u8]) -> bool {
     let Ok((program, host)) = load(bytes, hosts, u32::MAX, u32::MAX) else {
         return false;
     };
     let table = table_words(&program, &host);
+    for (a, size) in (0..).zip(family_sizes(sheet)) {
+        assert_eq!(size_in(&table, a), [0, size], "{a}: {sheet:?}");
+    }
     let numbers = asked_numbers(rng, sheet.types.len(), 24);
     for &t in &numbers {
         for &a in &numbers {

@@ -1,0 +1,3 @@
+pub mod FamilyCalls
+pub mod FamilyCallLaws
+pub mod Sample

@@ -1,0 +1,1 @@
+// What calls of the size query and of the count show, whoever makes them.

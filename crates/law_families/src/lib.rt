@@ -1,0 +1,1 @@
+// Families by declared parents and by spans.

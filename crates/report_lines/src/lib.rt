@@ -1,0 +1,17 @@
+// The report over sheets.
+use error::Loaded;
+use exact::Total;
+
+// On one sheet: the answer to it; how many words its lines take, two for each struct type; how many struct types there are, and the sum of sizes.
+pub struct SheetReport {
+    pub answer: Loaded,
+    pub words: usize,
+    pub structs: u32,
+    pub sizes: u64,
+}
+
+// Both sums over sheets.
+pub struct Totals {
+    pub structs: Total,
+    pub sizes: Total,
+}
