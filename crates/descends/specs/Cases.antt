@@ -11,7 +11,8 @@ abbrev lent : List ℕ
 lent = 1 ∷ 17 ∷ 0 ∷ 0 ∷ 0 ∷ 0 ∷ 0 ∷ 0 ∷ 0 ∷ 10 ∷ 3 ∷ 0 ∷ 3 ∷ 2 ∷ 2 ∷ 5 ∷ 1 ∷ []
 
 -- a number that is no type has size 0, and so has a span that ends before it begins; no words are no linked table
-sizes : (sizeIn lent 0 ≡ Size 3) × (sizeIn lent 1 ≡ Size 0) × (sizeIn lent 2 ≡ Size 0) × (sizeIn lent 3 ≡ Size 0) × (sizeIn [] 9 ≡ NotLinked)
+sizes : (sizeIn lent 0 ≡ Size 3) × (sizeIn lent 1 ≡ Size 0) × (sizeIn lent 2 ≡ Size 0)
+    × (sizeIn lent 3 ≡ Size 0) × (sizeIn [] 9 ≡ NotLinked)
 unfolding sizeIn knownWidth widthIn preIn postIn isLinked tableLength spansStart spanCount spansEnd
 sizes = (refl, refl, refl, refl, refl)
 

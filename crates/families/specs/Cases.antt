@@ -10,15 +10,16 @@ use Rattle.families.specs.declared.StructCount.the-variants.{Structs, Br
 use Rattle.families.specs.Families.{isFrom, family, familySize, structCount, structNumbers}
 use Rattle.families.specs.Counted.{countedOf, countNumbers}
 
-abbrev child : ℕ → TypeDef
+-- a struct without members, by its parent + 1
+abbrev pub child : ℕ → TypeDef
 child parent+ = struct (record { name = 0; parent+ = parent+; fields = []; methods = [] })
 
-abbrev sample : List TypeDef
+abbrev pub sample : List TypeDef
 sample = child 3 ∷ child 3 ∷ child 0 ∷ coroutine ∷ child 0 ∷ []
 
 -- `unfolding computed` opens what families are computed by
 unfoldable pub computed : List TypeDef → ℕ → ℕ
-unfolding familySize family isFrom structCount structNumbers isStruct kindWord typeAt chain walk parents entryAt entry entryOf structOf structEntry
+unfolding familySize family isFrom isStruct kindWord typeAt chain walk parents entryAt entry entryOf structOf structEntry
 computed types a = familySize 256 types a
 
 -- itself, a parent, not the other way, no sibling, no struct, no type
@@ -33,7 +34,7 @@ unfolding computed
 sizes = (refl, refl, refl, refl, refl)
 
 structs : (structCount sample ≡ 4) × (structNumbers sample ≡ 0 ∷ 1 ∷ 2 ∷ 4 ∷ [])
-unfolding computed
+unfolding computed structCount structNumbers
 structs = (refl, refl)
 
 counts : (countNumbers (countedOf none) ≡ 1 ∷ 0 ∷ []) × (countNumbers (Structs 4) ≡ 0 ∷ 4 ∷ [])

@@ -6,7 +6,7 @@ use lib.ListN.{getD, replicate}
 use Rattle.lists.specs.Lists.{sum}
 use Rattle.error.specs.declared.Loaded.the-variants.{Accepted}
 use Rattle.error.specs.Answer.{numbers}
-use Rattle.sheet.specs.Module.{TypeDef, struct, coroutine, Module}
+use Rattle.sheet.specs.Module.{Module}
 use Rattle.sheet.specs.Encode.{sheetOf}
 use Rattle.sheet.specs.Decode.{decode}
 use Rattle.host.specs.Host.{hostsOf}
@@ -17,21 +17,19 @@ use Rattle.descends.specs.Sizes.{sizeIn}
 use Rattle.families.specs.declared.StructCount.the-variants.{Structs}
 use Rattle.families.specs.Families.{isFrom, family, familySize, structCount}
 use Rattle.families.specs.Counted.{countedOf, structsIn}
+use Rattle.families.specs.Cases.{sample}
 use Rattle.load.specs.Load.{load, tableAfter, workAfter}
 use Rattle.law_everything.specs.Everything.{everything}
 use Rattle.calls.specs.Calls.{Loads, Begins}
 use Rattle.family_calls.specs.FamilyCalls.{SizesAsked, SizesRight}
 use Rattle.family_calls.specs.FamilyCallLaws.{sizes-right}
 
-abbrev child : ℕ → TypeDef
-child parent+ = struct (record { name = 0; parent+ = parent+; fields = []; methods = [] })
-
 -- structs 0 and 1 below struct 2, a type that is no struct, and a root of its own
-abbrev sample : Module
-sample =
+abbrev small : Module
+small =
     record {
       strings = [] ∷ [];
-      types = child 3 ∷ child 3 ∷ child 0 ∷ coroutine ∷ child 0 ∷ [];
+      types = sample;
       consts = [];
       imports = [];
       globals = [];
@@ -42,7 +40,7 @@ sample =
     }
 
 abbrev sheet : List ℕ
-sheet = sheetOf sample
+sheet = sheetOf small
 
 abbrev slice : List ℕ
 slice = replicate 500 7
@@ -58,9 +56,9 @@ unfolding everything
 calling = record { answers = refl; leaves = refl; clears = refl }
 
 -- what the theorem gives
-asked : SizesAsked sheet sample left
+asked : SizesAsked sheet small left
 unfolding SizesRight Begins everything
-asked = sizes-right sheet (hostsOf []) slice slice words left (workAfter sheet (hostsOf []) slice slice) sample refl calling left refl
+asked = sizes-right sheet (hostsOf []) slice slice words left (workAfter sheet (hostsOf []) slice slice) small refl calling left refl
 
 -- the root 2 holds three types, the root 4 itself, and type 3 is no struct
 told : (sizeIn left 2 ≡ Size 3) × (sizeIn left 4 ≡ Size 1) × (sizeIn left 3 ≡ Size 0)
@@ -72,6 +70,6 @@ told = (
 )
 
 -- four struct types in two root families
-counted : (structsIn sheet ≡ Structs 4) × (sum (familySize mostOnChain (sample .types)) (roots (sample .types)) ≡ 4)
+counted : (structsIn sheet ≡ Structs 4) × (sum (familySize mostOnChain sample) (roots sample) ≡ 4)
 unfolding everything structsIn countedOf structCount familySize family isFrom
 counted = (refl, refl)

@@ -171,7 +171,8 @@ module _ (most : ℕ) (hosts : List HostFn) (m : Module) (rest : List ℕ) where
     unfolding descendsBySpan
     spans-no-first t a s = ap (λ (x : Bool). x && isStruct (typeAt (m .types) a) && leb (pre most (m .types) a) (pre most (m .types) t) && ltb (pre most (m .types) t) (post most (m .types) a)) s
 
-    pub within : (t a : ℕ) (b c : Bool) → isStruct (typeAt (m .types) t) ≡ b → isStruct (typeAt (m .types) a) ≡ c → isWithin left t a ≡ descendsBySpan most (m .types) t a
+    pub within : (t a : ℕ) (b c : Bool) → isStruct (typeAt (m .types) t) ≡ b → isStruct (typeAt (m .types) a) ≡ c →
+        isWithin left t a ≡ descendsBySpan most (m .types) t a
     within t a true true s u = within-both t a s u
     within t a false true s u = not-below t a s u (decLt t (length (m .types))) ∙ sym (spans-no-first t a s)
     within t a true false s u = not-above t a u (decLt a (length (m .types))) ∙ sym (spans-no-second t a u)

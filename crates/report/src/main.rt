@@ -1,5 +1,5 @@
-// Reports on each sheet that the arguments name, in that order, under one host list, the file `hosts`: the six numbers and, of an accepted sheet,
-// each struct type with how many types descend from it, itself included. Last the sums of struct types and of those numbers.
+// Reports on each sheet that the arguments name, in that order, under one host list, the file `hosts`: the six numbers and,
+// of an accepted sheet, each struct type with how many types descend from it, itself included. Last both sums over all sheets.
 ghost use Rattle.report_lines.specs.Reported.{AddsSheet};
 ghost use Rattle.sheet_report.specs.Sums.{SpareBoth, SparesOne};
 use console::print_numbers;

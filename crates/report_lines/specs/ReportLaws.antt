@@ -4,32 +4,26 @@ use mathlib.Core.Path.{_≡_, refl, ap}
 use mathlib.Core.List.{List, [], _∷_}
 use Rattle.error.specs.declared.LoadError.{LoadError}
 use Rattle.error.specs.declared.Loaded.the-variants.{Refused}
-use Rattle.sheet.specs.Module.{TypeDef, struct, coroutine}
+use Rattle.sheet.specs.Module.{TypeDef}
 use Rattle.sheet.specs.Decode.{decode}
-use Rattle.families.specs.Cases.{computed}
+use Rattle.families.specs.Families.{structCount, structNumbers}
+use Rattle.families.specs.Cases.{child, sample, computed}
 use Rattle.report_lines.specs.Report.{judged, typesOf, counting, countedTypes, familyLine, familyLines, sizesTotal, totals}
 
 pub refused-none : (hosts sheet : List ℕ) (e : LoadError) → judged hosts sheet ≡ Refused e → countedTypes hosts sheet ≡ []
 unfolding countedTypes counting
 refused-none hosts sheet e q = ap (λ r. counting r (typesOf (decode sheet))) q
 
--- ── two sheets by hand ──
-
-abbrev child : ℕ → TypeDef
-child parent+ = struct (record { name = 0; parent+ = parent+; fields = []; methods = [] })
-
--- structs 0 and 1 below struct 2, a type that is no struct, and a root of its own
-abbrev first : List TypeDef
-first = child 3 ∷ child 3 ∷ child 0 ∷ coroutine ∷ child 0 ∷ []
+-- ── the types of two sheets, by hand ──
 
 -- struct 1 below struct 0
-abbrev second : List TypeDef
-second = child 0 ∷ child 1 ∷ []
+abbrev pair : List TypeDef
+pair = child 0 ∷ child 1 ∷ []
 
-lines : familyLines first ≡ (0 ∷ 1 ∷ []) ∷ (1 ∷ 1 ∷ []) ∷ (2 ∷ 3 ∷ []) ∷ (4 ∷ 1 ∷ []) ∷ []
-unfolding familyLines familyLine computed
+lines : familyLines sample ≡ (0 ∷ 1 ∷ []) ∷ (1 ∷ 1 ∷ []) ∷ (2 ∷ 3 ∷ []) ∷ (4 ∷ 1 ∷ []) ∷ []
+unfolding familyLines familyLine structNumbers computed
 lines = refl
 
-sums : totals (first ∷ second ∷ []) ≡ 6 ∷ 9 ∷ []
-unfolding totals sizesTotal computed
+sums : totals (sample ∷ pair ∷ []) ≡ 6 ∷ 9 ∷ []
+unfolding totals sizesTotal structCount structNumbers computed
 sums = refl

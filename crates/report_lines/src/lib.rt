@@ -2,7 +2,7 @@
 use error::Loaded;
 use exact::Total;
 
-// On one sheet: the answer to it; how many words its lines take, two for each struct type; how many struct types there are, and the sum of sizes.
+// On one sheet: the answer to it; how many words its lines take, two for each struct type; how many these are, and their sizes' sum.
 pub struct SheetReport {
     pub answer: Loaded,
     pub words: usize,

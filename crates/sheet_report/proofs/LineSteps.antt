@@ -168,7 +168,8 @@ module _ {ws w v : List ℕ} {t : ℕ} {f : FamilyLines} (p : Passes ws w t v f)
   size-room h = omega (arith, p .small)
 
   pub pass-next : t < 2032 → {u : List ℕ} {g : FamilyLines} → u ≡ written v (f .words) (lineIn ws t) →
-      g .words ≡ f .words + length (lineIn ws t) → g .sizes ≡ f .sizes + sizeWord ws t → g .sizes ≤ f .sizes + 4294967295 → Passes ws w (t + 1) u g
+      g .words ≡ f .words + length (lineIn ws t) → g .sizes ≡ f .sizes + sizeWord ws t →
+      g .sizes ≤ f .sizes + 4294967295 → Passes ws w (t + 1) u g
   pass-next h {u} {g} k a b c = record {
     listed = record {
       done =

@@ -147,7 +147,8 @@ module _ (hosts sheet table work lines : List ℕ) (a : length table ≡ 16320) 
     unfolding structsIn countedOf countOr0
     count-is c = c ∙ ap (λ (o : Option Module). countOr0 (countedOf o)) (links .decodes)
 
-    pub accepted-report : (left v : List ℕ) (f : FamilyLines) {n : ℕ} → left ≡ tableAfter sheet hosts table work → LinesWritten left lines 2032 v f →
+    pub accepted-report : (left v : List ℕ) (f : FamilyLines) {n : ℕ} → left ≡ tableAfter sheet hosts table work →
+        LinesWritten left lines 2032 v f →
         n ≡ countOr0 (structsIn sheet) →
         Reports hosts sheet lines (record { answer = Accepted l; words = f .words; structs = n; sizes = f .sizes }) v
     unfolding SizesRight

@@ -34,8 +34,11 @@ loop-less c = search needs
 loop-again : tie.Need-loop-again Inv-loop μ-loop
 loop-again c =
     let turn = c .before in
-    let spare = turn .before .loop .inv in
-    (omega arith, spare-next _ _ _ (c .report-file .ensures) (spare-fewer _ _ _ (omega (arith, turn .loop-test .taken, spare .0)) (spare .1)))
+    let spare = turn .before .loop .inv in (
+      omega arith,
+      spare-next _ _ _ (c .report-file .ensures)
+          (spare-fewer _ _ _ (omega (arith, turn .loop-test .taken, spare .0)) (spare .1)),
+    )
 
 returns : tie.Need-returns Inv-loop μ-loop
 returns c = search needs

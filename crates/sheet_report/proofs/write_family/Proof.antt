@@ -30,8 +30,10 @@ returns-2 : tie.Need-returns-2
 returns-2 c =
     let size = c .before .before .before .before .before .before .size-of .ensures in
     let some = c .before .before .before .before .before .if1 .left in
-    let line = c .before .before .before .write-line .ensures in
-    (one-written _ _ (size .0) some _ _ (line .0), (one-place _ _ (size .0) some _ (line .1), (one-size _ _ (size .0) _, omega (arith, size .1))))
+    let line = c .before .before .before .write-line .ensures in (
+      one-written _ _ (size .0) some _ _ (line .0),
+      (one-place _ _ (size .0) some _ (line .1), (one-size _ _ (size .0) _, omega (arith, size .1))),
+    )
 
 pub write-family-spec : {M : Type 1} → statement M
 write-family-spec =

@@ -18,7 +18,8 @@ same-length c = search needs
 returns : tie.Need-returns
 returns c =
     let first = c .before .before .before .before .before .before .push .ensures in
-    (line-written _ _ _ _ _ _ _ (c .before .before .before .before .before .before .before .before .before .pre) (first .0) (first .1) (c .before .before .push2 .ensures .0), search needs)
+    let start = c .before .before .before .before .before .before .before .before .before .pre in
+    (line-written _ _ _ _ _ _ _ start (first .0) (first .1) (c .before .before .push2 .ensures .0), search needs)
 
 pub write-line-spec : {M : Type 1} → statement M
 write-line-spec = tie.close (tie.spec push-requires push-requires-2 same-length returns)
