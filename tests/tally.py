@@ -1,5 +1,5 @@
-"""What the scripts of this folder share: what was tried, what did not go as expected, the proved programs, and the end of a run."""
-import os, subprocess, sys, tempfile
+"""What the scripts of this folder share: what was tried, what did not go as expected, proved programs, false loaders, the end of a run."""
+import os, shutil, subprocess, sys, tempfile
 
 ROOT = os.path.dirname(os.path.dirname(os.path.abspath(__file__)))
 
@@ -18,6 +18,26 @@ def answered(program, sheet, hosts=None):
             with open(folder + '/hosts', 'wb') as f:
                 f.write(hosts)
         return subprocess.run([f'{ROOT}/target/bin/{program}'], cwd=folder, input=sheet, stdout=subprocess.PIPE).stdout.decode()
+
+# the tools in a folder of their own, beside the sources, with nothing built
+def copy_tools(folder):
+    for part in ('tools', 'bindings/c'):
+        shutil.copytree(f'{ROOT}/{part}', f'{folder}/{part}')
+    for part in ('crates', 'crates.txt'):
+        os.symlink(f'{ROOT}/{part}', f'{folder}/{part}')
+
+# in such a folder a compiler that puts a script in the loader's place; the environment that has it
+def fake_loader(folder, does):
+    for made in (folder + '/bin', folder + '/target'):
+        os.makedirs(made, exist_ok=True)
+    if not os.path.exists(folder + '/target/staticlib'):
+        os.symlink(ROOT + '/target/staticlib', folder + '/target/staticlib')
+    shutil.rmtree(folder + '/target/tools', ignore_errors=True)
+    for name, text in (('fake', f'cat >/dev/null\n{does}'), ('cc', f'while [ "$1" != -o ]; do shift; done\ncp {folder}/bin/fake "$2"')):
+        with open(f'{folder}/bin/{name}', 'w') as f:
+            f.write(f'#!/bin/sh\n{text}\n')
+        os.chmod(f'{folder}/bin/{name}', 0o755)
+    return dict(os.environ, PATH=f"{folder}/bin:{os.environ['PATH']}")
 
 # what a script wants of the test run before it
 def wants(script, *paths):

@@ -13,16 +13,22 @@ from itertools import zip_longest
 sys.dont_write_bytecode = True
 from imports import IMPORT, ROOT, cited, closure, contract, declared, edges, files, read, unused
 
-# what is claimed: the calls and their answers, the demands, sizes and reports, and two claims of their own
+# what is claimed: the calls and their answers, the demands, sizes, nearest families and reports, and two claims of their own
 STATEMENTS = [
     'load/specs/Load', 'descends/specs/Descends', 'error/specs/Answer', 'calls/specs/Calls', 'law_rows/specs/Rows', 'utf8/specs/Grammar',
-    'descends/specs/Sizes', 'families/specs/Counted', 'report_lines/specs/Report', 'family_calls/specs/FamilyCalls',
+    'descends/specs/Sizes', 'descends/specs/Nearest', 'families/specs/Counted', 'report_lines/specs/Report',
+    'family_calls/specs/FamilyCalls', 'family_calls/specs/NearestCalls',
 ]
 # what a user can call, and what is claimed of it: contracts without `requires`, which cite believed files only
 CALLS = {
-    'loader/src/lib': ['load'], 'query/src/lib': ['descends', 'family_size'], 'family_sheets/src/lib': ['count_structs'],
+    'loader/src/lib': ['load'], 'query/src/lib': ['descends', 'family_size'], 'query_nearest/src/lib': ['nearest'],
+    'family_sheets/src/lib': ['count_structs'],
     'paqlluri/src/lib': ['paqlluri_load', 'paqlluri_descends', 'paqlluri_family_size', 'paqlluri_count_structs'],
-    'claims/src/lib': ['call', 'ask', 'ask_size', 'count', 'call_numbers', 'ask_number', 'ask_size_numbers', 'count_numbers'],
+    'paqlluri/src/nearest': ['paqlluri_nearest'],
+    'claims/src/lib': [
+        'call', 'ask', 'ask_size', 'ask_nearest', 'count',
+        'call_numbers', 'ask_number', 'ask_size_numbers', 'ask_nearest_numbers', 'count_numbers',
+    ],
     'sheet_report/src/lib': ['report_sheet'],
 }
 KIT = {'console': 'io os libc', 'inspect': 'io os libc', 'limits': 'io libc', 'replay': 'io os libc'}

@@ -1,5 +1,6 @@
 /*
- * Paqlluri: loads bytecode modules of tariffs, and answers which type descends from which, and how many do.
+ * Paqlluri: loads bytecode modules of tariffs, and answers which type descends from which, how many do, and which family
+ * of two types is the nearest.
  *
  * Link target/staticlib/libpaqlluri.a, which `rt staticlib paqlluri` proves and writes (x86-64, System V ABI).
  * It needs memcpy and memset and nothing else: no heap, no files, no globals. The calls are reentrant, and
@@ -64,6 +65,13 @@ enum paqlluri_count_place {
     PAQLLURI_COUNT_NUMBERS = 2 /* how many numbers there are */
 };
 
+/* The two numbers of the nearest family, by their place. */
+enum paqlluri_nearest_place {
+    PAQLLURI_NEAREST_KIND = 0,   /* one of enum paqlluri_nearest_kind, or PAQLLURI_NOT_LINKED */
+    PAQLLURI_NEAREST_FAMILY = 1, /* the type; 0 unless the kind is 0 */
+    PAQLLURI_NEAREST_NUMBERS = 2 /* how many numbers there are */
+};
+
 /* Accepted, or why not. The first that holds, in the order of docs/FORMAT.md, "The order of answers". */
 enum paqlluri_kind {
     PAQLLURI_ACCEPTED = 0,              /* number: the words of the linked table */
@@ -91,8 +99,14 @@ enum paqlluri_kind {
     PAQLLURI_BAD_CALL_SHAPE = 22,       /* a call shape is wrong */
     PAQLLURI_BAD_HOST_LIST = 23,        /* the host list is broken or holds a pair twice */
     PAQLLURI_SHORT_SLICE = 24,          /* table or work is shorter than 64 + 8N words */
-    PAQLLURI_NOT_LINKED = 25,           /* not a linked table (paqlluri_descends and paqlluri_family_size only) */
+    PAQLLURI_NOT_LINKED = 25,           /* not a linked table (paqlluri_descends, paqlluri_family_size and paqlluri_nearest only) */
     PAQLLURI_MISSED_STRUCT = 26         /* never given */
+};
+
+/* Whether two types have a nearest family. Kind 1 here is not PAQLLURI_DECODE; 25 is PAQLLURI_NOT_LINKED. */
+enum paqlluri_nearest_kind {
+    PAQLLURI_FOUND = 0,    /* family: the type */
+    PAQLLURI_NO_FAMILY = 1 /* there is none */
 };
 
 /* The word of PAQLLURI_OUT_OF_RANGE: what the number is out of the range of. */
@@ -143,6 +157,16 @@ uint32_t paqlluri_descends(const uint32_t *table, size_t table_len, uint32_t t, 
  * than L. Of words that no load wrote the count is post - pre of the span, 0 where post is below pre.
  */
 void paqlluri_family_size(const uint32_t *table, size_t table_len, uint32_t a, uint32_t answer[2]);
+
+/*
+ * The nearest family of types t and u, in any order: of the types that both descend from, a type counting among its own
+ * ancestors, the one with the longest chain of declared parents. Kind 0 (PAQLLURI_FOUND) with that type; 1
+ * (PAQLLURI_NO_FAMILY, not PAQLLURI_DECODE) where their roots differ, or a number is no struct type of the sheet or no
+ * type at all; 25 (PAQLLURI_NOT_LINKED), before all else, where the words are no linked table. A table may be longer than
+ * L. Of words that no load wrote it is the lowest-numbered type among those of least post - pre whose span holds both:
+ * pre <= pre of t < post, and the same of u.
+ */
+void paqlluri_nearest(const uint32_t *table, size_t table_len, uint32_t t, uint32_t u, uint32_t answer[2]);
 
 /*
  * How many struct types a sheet declares. Kind 0 with that count; 1 (PAQLLURI_DECODE) where the layout is broken.

@@ -114,6 +114,65 @@ static void sizes(uint32_t *lifts, size_t length) {
     expect("more spans than words", sized(lifts, length, 0, PAQLLURI_NOT_LINKED, 0));
 }
 
+static int one_way(const uint32_t *words, size_t length, uint32_t t, uint32_t u, uint32_t kind, uint32_t family) {
+    uint32_t numbers[PAQLLURI_NEAREST_NUMBERS + 1] = {BEFORE, BEFORE, BEFORE};
+    paqlluri_nearest(words, length, t, u, numbers);
+    return numbers[PAQLLURI_NEAREST_KIND] == kind && numbers[PAQLLURI_NEAREST_FAMILY] == family &&
+           numbers[PAQLLURI_NEAREST_NUMBERS] == BEFORE;
+}
+
+static int both_ways(const uint32_t *words, size_t length, uint32_t t, uint32_t u, uint32_t kind, uint32_t family) {
+    return one_way(words, length, t, u, kind, family) && one_way(words, length, u, t, kind, family);
+}
+
+static int is_nearest(const uint32_t *words, size_t length, uint32_t t, uint32_t u, uint32_t family) {
+    return both_ways(words, length, t, u, PAQLLURI_FOUND, family);
+}
+
+static int has_none(const uint32_t *words, size_t length, uint32_t t, uint32_t u) {
+    return both_ways(words, length, t, u, PAQLLURI_NO_FAMILY, 0);
+}
+
+static int is_no_table(const uint32_t *words, size_t length, uint32_t t, uint32_t u) {
+    return both_ways(words, length, t, u, PAQLLURI_NOT_LINKED, 0);
+}
+
+/* The families are those of sizes. */
+static void nearest(const uint32_t *lifts, size_t length) {
+    static const uint32_t expected[4][4] = {{0, 0, 0, 0}, {0, 1, 0, 0}, {0, 0, 2, 2}, {0, 0, 2, 3}};
+    uint32_t t, u;
+    for (t = 0; t < 4; t++) {
+        for (u = 0; u < 4; u++) {
+            expect("the nearest family", is_nearest(lifts, length, t, u, expected[t][u]));
+            expect("the nearest family in L words", is_nearest(lifts, lifts[1], t, u, expected[t][u]));
+        }
+        for (u = 4; u < 9; u++)
+            expect("no struct type", has_none(lifts, length, t, u) && has_none(lifts, length, u, u));
+        expect("one of no type", has_none(lifts, length, t, UINT32_MAX) && has_none(lifts, length, t, 0x80000000u));
+    }
+    expect("two of no type", has_none(lifts, length, UINT32_MAX, UINT32_MAX) && has_none(lifts, length, 7, 0x80000000u));
+    expect("none in a table that is short", is_no_table(lifts, lifts[1] - 1, 0, 0) && is_no_table(lifts, 9, 0, UINT32_MAX));
+    expect("none in no words", is_no_table(NULL, 0, 0, 0) && is_no_table(NULL, 0, UINT32_MAX, UINT32_MAX));
+    expect("none in words of something else", is_no_table(lifts + 1, length - 1, 0, 3));
+}
+
+/* Spans that no load writes: two that are equal, a narrower one, one with post below pre, one that nothing holds; and no struct. */
+static void nearest_in_any_words(void) {
+    uint32_t words[] = {1, 23, 0, 0, 0, 0, 0, 0, 0, 10, 6, 0, 4, 0, 4, 1, 2, 3, 1, 9, 9, UINT32_MAX, 0};
+    const size_t length = sizeof words / sizeof *words;
+    expect("the lower of equal spans", is_nearest(words, length, 0, 1, 0) && is_nearest(words, length, 1, 1, 0));
+    expect("a narrower span", is_nearest(words, length, 2, 2, 2) && is_nearest(words, length, 2, 1, 0));
+    expect("post below pre", is_nearest(words, length, 3, 3, 0) && is_nearest(words, length, 3, 2, 0));
+    expect("not even itself", has_none(words, length, 4, 4) && has_none(words, length, 5, 5) && has_none(words, length, 4, 0));
+    expect("as many spans as fit", has_none(words, length, 6, 0) && is_no_table(words, length - 1, 6, 0));
+    words[10] = 7;
+    expect("a span too many", is_no_table(words, length, 0, 0) && is_no_table(words, length, 7, 7));
+    words[10] = 0x80000000u;
+    expect("twice as many are none in 32 bits", is_no_table(words, length, 0, 0));
+    words[10] = UINT32_MAX;
+    expect("the most spans", is_no_table(words, length, 0, UINT32_MAX));
+}
+
 static int counts(const uint8_t *sheet, size_t length, uint32_t kind, uint32_t count) {
     uint32_t numbers[PAQLLURI_COUNT_NUMBERS + 1] = {BEFORE, BEFORE, BEFORE};
     paqlluri_count_structs(sheet, length, numbers);
@@ -150,6 +209,8 @@ static void families(const uint8_t *empty, const char *sheet_name, const char *h
     expect("the lifts", answer[PAQLLURI_KIND] == PAQLLURI_ACCEPTED && answer[PAQLLURI_NUMBER] == 167);
     if (wrong)
         return;
+    nearest(lifts, LIFTS_WORDS);
+    nearest_in_any_words();
     sizes(lifts, LIFTS_WORDS);
     structs(empty, sheet);
 }

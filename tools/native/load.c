@@ -1,11 +1,12 @@
 /*
  * Loads a sheet under a host list by the library and prints what it answers, for the tools to put in words.
  *
- *     load [--table | --families] SHEET HOSTS
+ *     load [--table | --families | --nearest T U] SHEET HOSTS
  *
  * Prints the six numbers and, where the sheet is accepted, what is asked for: with --table the words of the linked
  * table, sixteen to a line; with --families what paqlluri_count_structs answers, and for each type whose family is not
- * empty a line with its number and its size. A file can be - for standard input.
+ * empty a line with its number and its size; with --nearest what paqlluri_nearest answers of the types T and U, any
+ * numbers that a word holds. A file can be - for standard input.
  * Exit status: 0 accepted, 1 refused, 2 not tried, or not all was printed.
  */
 #include <errno.h>
@@ -24,7 +25,13 @@ struct bytes {
 };
 
 /* What is printed of an accepted sheet, beside the six numbers. */
-enum wanted { NUMBERS, TABLE, FAMILIES };
+enum wanted { NUMBERS, TABLE, FAMILIES, NEAREST };
+
+/* The types are those of NEAREST. */
+struct asked {
+    enum wanted wanted;
+    uint32_t types[2];
+};
 
 static int stop(const char *what, int error) {
     fprintf(stderr, "load: %s: %s\n", what, strerror(error));
@@ -76,8 +83,15 @@ static int print_families(struct bytes sheet, const uint32_t *table, size_t leng
     return 1;
 }
 
+/* Whether both numbers were written. */
+static int print_nearest(const uint32_t *table, size_t length, const uint32_t *types) {
+    uint32_t answer[PAQLLURI_NEAREST_NUMBERS];
+    paqlluri_nearest(table, length, types[0], types[1], answer);
+    return print_words(answer, PAQLLURI_NEAREST_NUMBERS);
+}
+
 /* Loads into lent words and prints the answer; 0 and 1 are verdicts, given only where all of it was written. */
-static int load(struct bytes sheet, struct bytes hosts, enum wanted wanted, uint32_t *table, uint32_t *work) {
+static int load(struct bytes sheet, struct bytes hosts, struct asked asked, uint32_t *table, uint32_t *work) {
     uint32_t answer[PAQLLURI_NUMBERS];
     size_t words = PAQLLURI_WORDS(sheet.length);
     int accepted, written;
@@ -85,20 +99,22 @@ static int load(struct bytes sheet, struct bytes hosts, enum wanted wanted, uint
     accepted = answer[PAQLLURI_KIND] == PAQLLURI_ACCEPTED;
     errno = 0;
     written = print_words(answer, PAQLLURI_NUMBERS);
-    if (written && accepted && wanted == TABLE)
+    if (written && accepted && asked.wanted == TABLE)
         written = print_words(table, answer[PAQLLURI_NUMBER]);
-    if (written && accepted && wanted == FAMILIES)
+    if (written && accepted && asked.wanted == FAMILIES)
         written = print_families(sheet, table, answer[PAQLLURI_NUMBER]);
+    if (written && accepted && asked.wanted == NEAREST)
+        written = print_nearest(table, answer[PAQLLURI_NUMBER], asked.types);
     if (fflush(stdout) != 0 || !written)
         return stop("standard output", errno != 0 ? errno : EIO);
     return accepted ? 0 : 1;
 }
 
 /* Lends table and work of just the length that is surely enough. */
-static int lend(struct bytes sheet, struct bytes hosts, enum wanted wanted) {
+static int lend(struct bytes sheet, struct bytes hosts, struct asked asked) {
     size_t words = PAQLLURI_WORDS(sheet.length);
     uint32_t *table = calloc(words, sizeof *table), *work = calloc(words, sizeof *work);
-    int status = table == NULL || work == NULL ? stop("table and work", ENOMEM) : load(sheet, hosts, wanted, table, work);
+    int status = table == NULL || work == NULL ? stop("table and work", ENOMEM) : load(sheet, hosts, asked, table, work);
     free(table);
     free(work);
     return status;
@@ -107,24 +123,46 @@ static int lend(struct bytes sheet, struct bytes hosts, enum wanted wanted) {
 static enum wanted option(int argc, char **argv) {
     if (argc > 1 && strcmp(argv[1], "--table") == 0)
         return TABLE;
-    return argc > 1 && strcmp(argv[1], "--families") == 0 ? FAMILIES : NUMBERS;
+    if (argc > 1 && strcmp(argv[1], "--families") == 0)
+        return FAMILIES;
+    return argc > 1 && strcmp(argv[1], "--nearest") == 0 ? NEAREST : NUMBERS;
+}
+
+/* Whether a text is digits of a number that a word holds, which is then in word. */
+static int read_word(const char *text, uint32_t *word) {
+    uint64_t value = 0;
+    size_t i;
+    for (i = 0; text[i] >= '0' && text[i] <= '9' && value <= UINT32_MAX; i++)
+        value = 10 * value + (uint64_t)(text[i] - '0');
+    *word = (uint32_t)value;
+    return i > 0 && text[i] == '\0' && value <= UINT32_MAX;
+}
+
+/* Where the two files stand among the arguments, with what is asked for into asked; 0 where they are not as the usage says. */
+static int read_arguments(int argc, char **argv, struct asked *asked) {
+    int first;
+    asked->wanted = option(argc, argv);
+    first = asked->wanted == NUMBERS ? 1 : asked->wanted == NEAREST ? 4 : 2;
+    if (argc - first != 2 || (strcmp(argv[first], "-") == 0 && strcmp(argv[first + 1], "-") == 0))
+        return 0;
+    if (asked->wanted == NEAREST && !(read_word(argv[2], &asked->types[0]) && read_word(argv[3], &asked->types[1])))
+        return 0;
+    return first;
 }
 
 int main(int argc, char **argv) {
     struct bytes sheet = {NULL, 0}, hosts = {NULL, 0};
-    enum wanted wanted = option(argc, argv);
-    int first = wanted == NUMBERS ? 1 : 2;
-    char **names = argv + first;
-    int status;
-    if (argc - first != 2 || (strcmp(names[0], "-") == 0 && strcmp(names[1], "-") == 0)) {
-        fprintf(stderr, "usage: load [--table | --families] SHEET HOSTS\n");
+    struct asked asked = {NUMBERS, {0, 0}};
+    int first = read_arguments(argc, argv, &asked), status;
+    if (first == 0) {
+        fprintf(stderr, "usage: load [--table | --families | --nearest T U] SHEET HOSTS\n");
         return 2;
     }
-    status = read_file(names[0], &sheet);
+    status = read_file(argv[first], &sheet);
     if (status == 0)
-        status = read_file(names[1], &hosts);
+        status = read_file(argv[first + 1], &hosts);
     if (status == 0)
-        status = lend(sheet, hosts, wanted);
+        status = lend(sheet, hosts, asked);
     free(sheet.data);
     free(hosts.data);
     return status;

@@ -3,7 +3,7 @@ from .labels import Labels
 from .module import Struct
 from .show import quoted
 
-# of a struct's own fields and of a name so many are shown
+# of a struct's own fields, or of types, and of a name so many are shown
 CHAIN, FIELDS, LONGEST = 256, 24, 60
 
 class Families:
@@ -40,12 +40,23 @@ class Families:
         text = self.text(number)
         if text is None:
             return f'string {number}'
-        cut = text[:LONGEST] + ('…' if len(text) > LONGEST else '')
+        cut = shortened(text)
         return cut if cut.isprintable() and cut.strip() == cut and cut and ',' not in cut else quoted(cut)
 
+    # a struct's whole name; rule 2 holds of an accepted sheet, so that it is there
+    def called(self, t):
+        return self.text(self.types[t].name)
+
     def name(self, t):
-        text = self.text(self.types[t].name)
+        text = self.called(t)
         return self.labels[t] if text is None or text == self.labels[t] else self.field(self.types[t].name)
+
+    # a type and those above it, its root last; none for what is in no family
+    def chain(self, t):
+        out = [t] if t in self.depth else []
+        for _ in range(self.depth.get(t, 0)):
+            out.append(self.parent(out[-1]))
+        return out
 
     # whether a type's fields begin with its parent's, as stored
     def begins(self, t):
@@ -98,6 +109,13 @@ class Families:
                 out.update(dict.fromkeys(ring, len(ring)))
         return out
 
+def shortened(text):
+    return text[:LONGEST] + ('…' if len(text) > LONGEST else '')
+
+# the first of them, and how many more there are
+def some(members):
+    return members[:FIELDS] + ([f'and {len(members) - FIELDS} more'] if len(members) > FIELDS else [])
+
 def plural(count, what):
     return f'{count} {what}' if count == 1 else f'{count} {what}s'
 
@@ -108,8 +126,7 @@ def counted(families, t):
 
 # own fields, or that there is none; in brackets what is wrong
 def line(families, t):
-    own = families.own(t)
-    own[FIELDS:] = [f'and {len(own) - FIELDS} more'] if len(own) > FIELDS else []
+    own = some(families.own(t))
     sign = '+ ' if families.types[t].parent and own else ''
     parts = [f'{families.name(t)} (type {t}, {counted(families, t)})']
     parts += [f'{sign}{", ".join(own)}'] if own else []

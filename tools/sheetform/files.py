@@ -1,13 +1,15 @@
 """Arguments, files in and files out, and how a tool ends."""
-import os, sys, tempfile
+import os, re, sys, tempfile
 from types import SimpleNamespace
-from .lexer import Wrong
+from .lexer import OVER, Wrong, word_of
 
 # a byte more than 4,096 blocks shows that there are more; a text of such a sheet can be longer
 MOST, MOST_TEXT = 4096 * 512 + 1, 1 << 27
 USAGE = dict(write='write TEXT [-o FILE]', show='show [--hosts] FILE [-o TEXT]', table='table SHEET [HOSTS]',
-             families='families SHEET [--svg FILE | --dot FILE]')
-OPTIONS = dict(write=['-o'], show=['-o', '--hosts'], table=[], families=['--svg', '--dot'])
+             families='families SHEET [--svg FILE | --dot FILE]', nearest='nearest SHEET HOSTS TYPE TYPE')
+OPTIONS = dict(write=['-o'], show=['-o', '--hosts'], table=[], families=['--svg', '--dot'], nearest=[])
+# how many words stand beside the options, at least and at most
+NAMES = dict(write=(1, 1), show=(1, 1), table=(1, 2), families=(1, 1), nearest=(4, 4))
 
 class Failed(Exception):
     """What cannot be tried, and why."""
@@ -38,7 +40,7 @@ def ended(tool, main):
 # what is asked for
 def arguments(given):
     if not given or given[0] not in USAGE:
-        raise Failed('usage: tools/sheet write|show|table|families ...; tools/sheet --help says more')
+        raise Failed(f'usage: tools/sheet {"|".join(USAGE)} ...; tools/sheet --help says more')
     command, rest = given[0], given[1:]
     usage = f'usage: tools/sheet {USAGE[command]}'
     out, names = SimpleNamespace(command=command, o=None, hosts=False, svg=None, dot=None, under=None), []
@@ -50,11 +52,24 @@ def arguments(given):
             raise Failed(usage)
         else:
             setattr(out, first.lstrip('-'), True if first == '--hosts' else rest.pop(0))
-    most = 2 if command == 'table' else 1
-    if not 1 <= len(names) <= most or None not in (out.svg, out.dot) or names == ['-', '-']:
+    least, most = NAMES[command]
+    if not least <= len(names) <= most or None not in (out.svg, out.dot) or names[:2] == ['-', '-']:
         raise Failed(usage)
-    out.file, out.under = names[0], names[1] if len(names) == 2 else None
+    out.file, out.under, out.types = names[0], names[1] if len(names) > 1 else None, list(map(type_of, names[2:]))
     return out
+
+# a type's number, else its name; no loader can be asked about a number that is no word
+def type_of(given):
+    if not re.fullmatch('[0-9]+', given):
+        return given
+    number = word_of(given)
+    if number is None:
+        raise Failed(f'{given}: {OVER}')
+    return number
+
+# a word of the command line as text; bytes that are no UTF-8 as \xff
+def title(word):
+    return os.fsencode(word).decode('utf-8', 'backslashreplace')
 
 def name_of(path):
     return 'standard input' if path == '-' else path

@@ -9,6 +9,7 @@ WORD = f'[{LETTER}0-9]'
 TOKEN = re.compile(rf'(?P<space>[ \t\r]+)|(?P<comment>\#.*)|(?P<text>"(?:[^"\\]|\\.)*")|(?P<word>{WORD}(?:{WORD}|-(?={WORD}))*)|(?P<mark>->|[-(),=:])')
 NUMBER = re.compile('0[xX][0-9a-fA-F]+|[0-9]+')
 ESCAPE = re.compile(r'\\(?:u([0-9a-fA-F]{4})|(.))')
+OVER = f'a number over {TOP}, the most that a word holds'
 SIMPLE = {'"': '"', '\\': '\\', '/': '/', 'b': '\b', 'f': '\f', 'n': '\n', 'r': '\r', 't': '\t'}
 
 class Wrong(Exception):
@@ -18,9 +19,9 @@ class Wrong(Exception):
         self.line, self.column, self.message = line, column, message
 
 # what is most like it among so many as are quickly compared
-def meant(word, known):
+def meant(word, known, shown="'{}'".format):
     close = difflib.get_close_matches(word, list(known)[:2000], 1)
-    return f"; did you mean '{close[0]}'?" if close else ''
+    return f'; did you mean {shown(close[0])}?' if close else ''
 
 def a(kind):
     return f'an {kind}' if kind == 'import' else f'a {kind}'
@@ -45,13 +46,18 @@ def unquoted(number, column, source):
     except UnicodeDecodeError:
         raise Wrong(number, column, 'a text with half a character: \\ud800 to \\udfff stand in pairs') from None
 
+# the number that digits give, or None where no word holds it
+def word_of(digits, base=10):
+    digits = digits.lstrip('0')
+    value = TOP + 1 if len(digits) > 10 else int(digits or '0', base)
+    return value if value <= TOP else None
+
 def numbered(number, column, source):
     if not NUMBER.fullmatch(source):
         raise Wrong(number, column, f"'{source}' is neither a number nor a name")
-    digits = source[2:].lstrip('0') if source[:2] in ('0x', '0X') else source.lstrip('0')
-    value = TOP + 1 if len(digits) > 10 else int(digits or '0', 16 if source[:2] in ('0x', '0X') else 10)
-    if value > TOP:
-        raise Wrong(number, column, f'a number over {TOP}, the most that a word holds')
+    value = word_of(source[2:], 16) if source[:2] in ('0x', '0X') else word_of(source)
+    if value is None:
+        raise Wrong(number, column, OVER)
     return value
 
 def token(number, kind, source, column):

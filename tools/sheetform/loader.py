@@ -34,6 +34,8 @@ KINDS = {
 OUT_OF = ['type', 'function', 'string', 'constant', 'register', 'import', 'global', 'branch target', 'table target', 'table', 'name', 'type ref',
           'capture', 'call shape']
 WANTED = ['a struct', 'an array', 'a map', 'a cell']
+# of --nearest, whose kind 1 is not load's
+NO_FAMILY = [1, 0]
 
 # words 1, 3, 0 and the check word of their block
 def empty_list():
@@ -55,7 +57,7 @@ class Loader:
     def __exit__(self, *_):
         self.folder.cleanup()
 
-    # the six numbers and, where the sheet is accepted, the words of what is asked for: --table, --families or nothing
+    # the six numbers and, where the sheet is accepted, the words of what is asked for: --table, --families, --nearest T U or nothing
     def load(self, sheet, *asked):
         done = subprocess.run([self.program, *asked, '-', self.hosts], input=sheet, stdout=subprocess.PIPE)
         words = done.stdout.split()
@@ -80,10 +82,12 @@ def answer(program, status, words, *asked):
         raise Failed(f'no verdict: {program} ended with status {status} and printed {len(words)} numbers, first {numbers}')
     return numbers, rest
 
-# a linked table has L words; families are a kind and a number of struct types, then a type and a size for each
-def whole(numbers, rest, asked=None):
+# a table has L words; families a kind and a number of struct types, then a type and a size for each; a nearest family a kind and a type
+def whole(numbers, rest, asked=None, *_):
     if numbers[0] == 0 and asked == '--families':
         return len(rest) >= 2 and rest[0] == 0 and len(rest) == 2 + 2 * rest[1]
+    if numbers[0] == 0 and asked == '--nearest':
+        return len(rest) == 2 and (rest[0] == 0 or rest == NO_FAMILY)
     return len(rest) == (numbers[2] if numbers[0] == 0 and asked == '--table' else 0)
 
 # the strings of an intact sheet: its first part, after edition and N
@@ -117,3 +121,7 @@ def meaning(sheet, numbers):
     if function:
         said += f'\nin function {function - 1}' + (f', instruction {position - 1}' if position else '')
     return said
+
+# numbers of the loader, and below what they mean
+def answered(numbers, words):
+    return f'{" ".join(map(str, numbers))}\n{words}\n'

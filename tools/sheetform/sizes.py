@@ -38,14 +38,10 @@ class Sizes:
         for t, depth in self.families.walk:
             root = root if depth else t
             parent = self.families.parent(t) if depth else None
-            yield [sheet, t, self.text(t), self.sizes[t], *self.named(parent), *self.named(root)]
+            yield [sheet, t, self.families.called(t), self.sizes[t], *self.named(parent), *self.named(root)]
 
     def named(self, t):
-        return ['', ''] if t is None else [t, self.text(t)]
-
-    # the whole name; rule 2 holds of an accepted sheet, so that it is there
-    def text(self, t):
-        return self.families.text(self.families.types[t].name)
+        return ['', ''] if t is None else [t, self.families.called(t)]
 
 def aligned(*cells):
     *numbers, last = cells

@@ -2,7 +2,8 @@
 //!
 //! [`load`] takes the bytes of a sheet and of a host list, which nobody need check first, and either
 //! refuses the sheet ([`LoadError`]) or writes its linked table into a borrowed slice ([`Linked`]).
-//! [`Linked::descends`] then says which type belongs to which family, and [`Linked::family_size`] how many do.
+//! [`Linked::descends`] then says which type belongs to which family, [`Linked::family_size`] how many do, and
+//! [`Linked::nearest`] which family of two types is the nearest.
 //!
 //! ```
 //! use paqlluri::{load, table_words, work_words, TypeId};
@@ -21,6 +22,7 @@
 //! assert!(linked.descends(hydraulic, goods) && linked.descends(hydraulic, lift));
 //! assert!(!linked.descends(hydraulic, passenger));
 //! assert_eq!(linked.family_size(goods), 2);
+//! assert_eq!(linked.nearest(hydraulic, passenger), Some(lift));
 //! # Ok(())
 //! # }
 //! ```
@@ -136,6 +138,33 @@ pub fn count_structs(sheet: &[u8]) -> Result<u32, BrokenLayout> {
     }
 }
 
+/// The nearest family of types `t` and `u` by any words: what [`Linked::nearest`] says of a linked table.
+///
+/// Of words that [`load`] did not write it is the lowest-numbered type among those of least post minus pre whose span holds
+/// both.
+///
+/// # Errors
+///
+/// [`NotLinked`], which is kind 25, where the words are no linked table, whatever the types are.
+///
+/// ```
+/// use paqlluri::{nearest, NotLinked, TypeId};
+///
+/// // Type 0 has the span from 0 to 2, type 1 the one from 1 to 2 in it.
+/// let words = [1, 15, 0, 0, 0, 0, 0, 0, 0, 10, 2, 0, 2, 1, 2];
+/// assert_eq!(nearest(&words, TypeId(1), TypeId(0)), Ok(Some(TypeId(0))));
+/// assert_eq!(nearest(&words, TypeId(1), TypeId(2)), Ok(None));
+/// assert_eq!(nearest(&words[1..], TypeId(1), TypeId(2)), Err(NotLinked));
+/// ```
+pub fn nearest(words: &[u32], t: TypeId, u: TypeId) -> Result<Option<TypeId>, NotLinked> {
+    match raw::nearest(words, t.0, u.0) {
+        [0, family] => Ok(Some(TypeId(family))),
+        [25, _] => Err(NotLinked),
+        // There is no other kind than 0, 1 and 25.
+        _ => Ok(None),
+    }
+}
+
 /// A linked table: the words that [`load`] wrote, or stored ones.
 #[derive(Clone, Copy, Debug, PartialEq, Eq)]
 pub struct Linked<'a> {
@@ -146,8 +175,8 @@ impl<'a> Linked<'a> {
     /// A stored table, which may have further words after it.
     ///
     /// What is looked at is what the family queries rely on: the first word, the length, and where the spans stand.
-    /// Whether [`load`] wrote the rest is not known; any answer of [`descends`](Self::descends) and
-    /// [`family_size`](Self::family_size) is then one about these words.
+    /// Whether [`load`] wrote the rest is not known; any answer of [`descends`](Self::descends),
+    /// [`family_size`](Self::family_size) and [`nearest`](Self::nearest) is then one about these words.
     ///
     /// # Errors
     ///
@@ -206,6 +235,33 @@ impl<'a> Linked<'a> {
         // These words are a linked table, so the kind is 0.
         let [_, size] = raw::family_size(self.words, a.0);
         size
+    }
+
+    /// The nearest family of types `t` and `u`: of the types that both descend from, a type counting among its own
+    /// ancestors, the one with the longest chain of declared parents.
+    ///
+    /// There is none where their roots differ, or where a number is no struct type of the sheet or no type at all. The order
+    /// of the two does not matter, and three types have one nearest family however they are grouped.
+    ///
+    /// ```
+    /// # use paqlluri::{load, LoadError, TypeId};
+    /// # fn main() -> Result<(), LoadError> {
+    /// # let sheet = include_bytes!(concat!(env!("CARGO_MANIFEST_DIR"), "/../../samples/lifts.sheet"));
+    /// # let hosts = include_bytes!(concat!(env!("CARGO_MANIFEST_DIR"), "/../../samples/hosts"));
+    /// # let (mut table, mut work) = ([0; 4096], [0; 4096]);
+    /// let linked = load(sheet, hosts, &mut table, &mut work)?;
+    /// // HydraulicGoodsLift with Lift, PassengerLift, GoodsLift above it, itself, a func type, no type.
+    /// let nearest = [0, 1, 2, 3, 4, 99].map(|u| linked.nearest(TypeId(3), TypeId(u)));
+    /// let found = [0, 0, 2, 3].map(|family| Some(TypeId(family)));
+    /// assert_eq!(nearest[..4], found);
+    /// assert_eq!(nearest[4..], [None, None]);
+    /// # Ok(())
+    /// # }
+    /// ```
+    #[must_use]
+    pub fn nearest(&self, t: TypeId, u: TypeId) -> Option<TypeId> {
+        // These words are a linked table, so the kind is not 25.
+        nearest(self.words, t, u).unwrap_or(None)
     }
 }
 

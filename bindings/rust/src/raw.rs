@@ -1,6 +1,7 @@
 //! The calls with the numbers of the answers as they are.
 //!
-//! [`load`](crate::load), [`Linked`](crate::Linked) and [`count_structs`](crate::count_structs) say the same in types.
+//! [`load`](crate::load), [`Linked`](crate::Linked), [`nearest`](crate::nearest) and
+//! [`count_structs`](crate::count_structs) say the same in types.
 
 #![allow(unsafe_code)]
 
@@ -24,6 +25,14 @@ mod ffi {
             table: *const u32,
             table_len: usize,
             a: u32,
+            answer: *mut [u32; 2],
+        );
+
+        pub fn paqlluri_nearest(
+            table: *const u32,
+            table_len: usize,
+            t: u32,
+            u: u32,
             answer: *mut [u32; 2],
         );
 
@@ -69,6 +78,16 @@ pub fn family_size(table: &[u32], a: u32) -> [u32; 2] {
     let mut answer = [0; 2];
     // SAFETY: pointer and length are a slice's; the function reads any words within it alone, and writes the answer.
     unsafe { ffi::paqlluri_family_size(table.as_ptr(), table.len(), a, &raw mut answer) }
+    answer
+}
+
+/// The nearest family of types `t` and `u`: 0 and the type, 1 and 0 where there is none, which is not `load`'s kind 1, or
+/// 25 and 0 where the words are no linked table.
+#[must_use]
+pub fn nearest(table: &[u32], t: u32, u: u32) -> [u32; 2] {
+    let mut answer = [0; 2];
+    // SAFETY: pointer and length are a slice's; the function reads any words within it alone, and writes the answer.
+    unsafe { ffi::paqlluri_nearest(table.as_ptr(), table.len(), t, u, &raw mut answer) }
     answer
 }
 

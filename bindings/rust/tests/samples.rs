@@ -1,7 +1,7 @@
 //! The library on the samples, on wrong words, and on a small stack.
 
 use paqlluri::{
-    count_structs, load, raw, table_words, work_words, BrokenLayout, Linked, LoadError,
+    count_structs, load, nearest, raw, table_words, work_words, BrokenLayout, Linked, LoadError,
     LoadErrorKind, NotLinked, StrId, TypeId, MOST_WORDS,
 };
 
@@ -84,6 +84,75 @@ fn the_lifts_families_have_sizes() {
     table[pre] = 5;
     assert_eq!(raw::family_size(&table, 0), [0, 0]);
     assert_eq!(raw::family_size(&table, 2), [0, 2]);
+}
+
+/// A pair in both orders, by all three calls where the words are a linked table.
+fn assert_nearest(words: &[u32], [t, u]: [u32; 2], expected: Result<Option<u32>, NotLinked>) {
+    let numbers = match expected {
+        Ok(Some(family)) => [0, family],
+        Ok(None) => [1, 0],
+        Err(NotLinked) => [25, 0],
+    };
+    let family = expected.map(|family| family.map(TypeId));
+    for (t, u) in [(t, u), (u, t)] {
+        assert_eq!(raw::nearest(words, t, u), numbers, "{t} and {u}");
+        let (t, u) = (TypeId(t), TypeId(u));
+        assert_eq!(nearest(words, t, u), family, "{t:?} and {u:?}");
+        let linked = Linked::from_words(words);
+        assert_eq!(linked.map(|l| l.nearest(t, u)), family, "{t:?} and {u:?}");
+    }
+}
+
+#[test]
+fn the_lifts_have_nearest_families() {
+    let (_, [table, _]) = tried(LIFTS, HOSTS, table_words(LIFTS.len()));
+    let expected = [[0, 0, 0, 0], [0, 1, 0, 0], [0, 0, 2, 2], [0, 0, 2, 3]];
+    for (t, families) in (0..).zip(expected) {
+        for (u, family) in (0..).zip(families) {
+            assert_nearest(&table, [t, u], Ok(Some(family)));
+            assert_nearest(&table[..167], [t, u], Ok(Some(family)));
+        }
+        // Func types, and no types.
+        for u in [4, 5, 6, 7, 8, 1 << 31, u32::MAX] {
+            assert_nearest(&table, [t, u], Ok(None));
+            assert_nearest(&table, [u, u], Ok(None));
+        }
+    }
+    for words in [&[][..], &table[..9], &table[..166], &table[1..]] {
+        assert_nearest(words, [0, 0], Err(NotLinked));
+        assert_nearest(words, [3, u32::MAX], Err(NotLinked));
+    }
+}
+
+#[test]
+fn nearest_families_of_words_that_no_load_wrote() {
+    // Two spans that are equal, a narrower one, one with post below pre, one that nothing holds; no struct.
+    #[rustfmt::skip]
+    let mut words = [
+        1, 23, 0, 0, 0, 0, 0, 0, 0, 10,
+        6, 0, 4, 0, 4, 1, 2, 3, 1, 9, 9, u32::MAX, 0,
+    ];
+    let found = [
+        (0, 1, 0),
+        (1, 1, 0),
+        (2, 2, 2),
+        (2, 1, 0),
+        (3, 3, 0),
+        (3, 2, 0),
+    ];
+    for (t, u, family) in found {
+        assert_nearest(&words, [t, u], Ok(Some(family)));
+    }
+    for pair in [[4, 4], [5, 5], [4, 0], [6, 0], [u32::MAX, 6]] {
+        assert_nearest(&words, pair, Ok(None));
+    }
+    assert_nearest(&words[..22], [6, 0], Err(NotLinked));
+    // One span more than there is; as many that twice the number is 0 in 32 bits; the most.
+    for count in [7, 1 << 31, u32::MAX] {
+        words[10] = count;
+        assert_nearest(&words, [0, 0], Err(NotLinked));
+        assert_nearest(&words, [count, u32::MAX], Err(NotLinked));
+    }
 }
 
 #[test]

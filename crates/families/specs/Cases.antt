@@ -4,10 +4,12 @@ use mathlib.Core.Path.{_≡_, refl}
 use mathlib.Core.List.{List, [], _∷_}
 use mathlib.Core.Bool.{true, false}
 use mathlib.Core.Option.{none, some}
-use Rattle.sheet.specs.Module.{TypeDef, struct, coroutine, Module, typeAt, kindWord, structOf, isStruct}
-use Rattle.parents.specs.Forest.{structEntry, entryOf, entry, entryAt, parents, walk, chain}
-use Rattle.families.specs.declared.StructCount.the-variants.{Structs, Broken}
+use Rattle.sheet.specs.Module.{TypeDef, struct, coroutine, typeAt, kindWord, structOf, isStruct}
+use Rattle.lists.specs.Best.{winner, best}
+use Rattle.parents.specs.Forest.{structEntry, entryOf, entry, entryAt, parents, walk, chain, chainLength}
+use Rattle.families.specs.declared.StructCount.the-variants.{Structs}
 use Rattle.families.specs.Families.{isFrom, family, familySize, structCount, structNumbers}
+use Rattle.families.specs.Families.{commonFamilies, isDeeper, nearest, lastOf, rootOf, haveOneRoot}
 use Rattle.families.specs.Counted.{countedOf, countNumbers}
 
 -- a struct without members, by its parent + 1
@@ -36,6 +38,22 @@ sizes = (refl, refl, refl, refl, refl)
 structs : (structCount sample ≡ 4) × (structNumbers sample ≡ 0 ∷ 1 ∷ 2 ∷ 4 ∷ [])
 unfolding computed structCount structNumbers
 structs = (refl, refl)
+
+-- struct 0, its child 1, and below that 2 and 3
+abbrev tall : List TypeDef
+tall = child 0 ∷ child 1 ∷ child 2 ∷ child 2 ∷ []
+
+-- the longest chain, not the shortest; a parent, itself; roots that differ, no struct, no type
+nearests : (nearest 256 tall 2 3 ≡ some 1) × (nearest 256 tall 3 1 ≡ some 1) × (nearest 256 tall 0 2 ≡ some 0)
+    × (nearest 256 sample 0 1 ≡ some 2) × (nearest 256 sample 0 0 ≡ some 0) × (nearest 256 sample 0 4 ≡ none)
+    × (nearest 256 sample 3 3 ≡ none) × (nearest 256 sample 5 0 ≡ none) × (nearest 256 sample 0 5 ≡ none)
+unfolding computed nearest commonFamilies isDeeper chainLength best winner
+nearests = (refl, refl, refl, refl, refl, refl, refl, refl, refl)
+
+rooted : (rootOf 256 tall 3 ≡ 0) × (haveOneRoot 256 tall 3 0 ≡ true) × (haveOneRoot 256 sample 0 4 ≡ false)
+    × (haveOneRoot 256 sample 3 3 ≡ false) × (haveOneRoot 256 sample 0 5 ≡ false)
+unfolding computed haveOneRoot rootOf lastOf
+rooted = (refl, refl, refl, refl, refl)
 
 counts : (countNumbers (countedOf none) ≡ 1 ∷ 0 ∷ []) × (countNumbers (Structs 4) ≡ 0 ∷ 4 ∷ [])
 unfolding countNumbers countedOf

@@ -1,5 +1,5 @@
 -- `sizes-right` is about something: a sheet, a call that accepts it, and what is then answered.
-use mathlib.Core.Path.{_≡_, refl, sym, _∙_}
+use mathlib.Core.Path.{_≡_, refl}
 use mathlib.Core.List.{List, [], _∷_}
 use Prim.Native.Nat.{ℕ}
 use lib.ListN.{getD, replicate}
@@ -8,7 +8,6 @@ use Rattle.error.specs.declared.Loaded.the-variants.{Accepted}
 use Rattle.error.specs.Answer.{numbers}
 use Rattle.sheet.specs.Module.{Module}
 use Rattle.sheet.specs.Encode.{sheetOf}
-use Rattle.sheet.specs.Decode.{decode}
 use Rattle.host.specs.Host.{hostsOf}
 use Rattle.parents.specs.Parents.{mostOnChain}
 use Rattle.spans.specs.Spans.{roots}
@@ -25,7 +24,7 @@ use Rattle.family_calls.specs.FamilyCalls.{SizesAsked, SizesRight}
 use Rattle.family_calls.specs.FamilyCallLaws.{sizes-right}
 
 -- structs 0 and 1 below struct 2, a type that is no struct, and a root of its own
-abbrev small : Module
+abbrev pub small : Module
 small =
     record {
       strings = [] ∷ [];
@@ -39,19 +38,19 @@ small =
       exports = [];
     }
 
-abbrev sheet : List ℕ
+abbrev pub sheet : List ℕ
 sheet = sheetOf small
 
-abbrev slice : List ℕ
+abbrev pub slice : List ℕ
 slice = replicate 500 7
 
-abbrev words : ℕ
+abbrev pub words : ℕ
 words = getD (numbers (load sheet (hostsOf []) 500 500)) 2 0
 
-abbrev left : List ℕ
+abbrev pub left : List ℕ
 left = tableAfter sheet (hostsOf []) slice slice
 
-calling : Loads sheet (hostsOf []) slice slice (Accepted words) left (workAfter sheet (hostsOf []) slice slice)
+pub calling : Loads sheet (hostsOf []) slice slice (Accepted words) left (workAfter sheet (hostsOf []) slice slice)
 unfolding everything
 calling = record { answers = refl; leaves = refl; clears = refl }
 

@@ -5,10 +5,36 @@ use mathlib.Core.List.{List, [], _∷_, _++_}
 use mathlib.Core.Bool.{Bool, true, false, cond}
 use native.Mathlib.Omega.{arith}
 use native.Mathlib.Nat.{mul-suc}
+use native.Mathlib.Decide.{ℕ-discrete}
+use lib.Dec.{eqb}
 use lib.ListN.{length, getD}
 use Rattle.lists.specs.Lists.{concatMap, from, keep, placesFrom, sum}
-use Rattle.law_counting.specs.Counting.{tick}
+use Rattle.law_counting.specs.Counting.{tick, count, tick-not}
 use Rattle.law_counting.specs.Sums.{length-by-places}
+
+-- a number that passes stands as often as before, another not at all
+pub count-keep : (p : ℕ → Bool) (x : ℕ) (l : List ℕ) → count x (keep p l) ≡ cond (p x) (count x l) 0
+count-keep p x [] = none-left (p x)
+  where
+    none-left : (b : Bool) → _≡_ {A = ℕ} 0 (cond b 0 0)
+    none-left true = refl
+    none-left false = refl
+count-keep p x (y ∷ l) = go (p x) (p y) refl refl (ℕ-discrete x y) (count-keep p x l)
+  where
+    differ : {A : Type 0} → x ≡ y → p x ≡ true → p y ≡ false → A
+    differ q e f = let z : true ≡ false = sym e ∙ ap p q ∙ f in let w : _≡_ {A = ℕ} 0 1 = cc in absurd (omega arith)
+
+    differ-back : {A : Type 0} → x ≡ y → p x ≡ false → p y ≡ true → A
+    differ-back q e f = let z : true ≡ false = sym f ∙ ap p (sym q) ∙ e in let w : _≡_ {A = ℕ} 0 1 = cc in absurd (omega arith)
+
+    go : (a b : Bool) → p x ≡ a → p y ≡ b → Dec (x ≡ y) → count x (keep p l) ≡ cond (p x) (count x l) 0 →
+        count x (cond (p y) (y ∷ keep p l) (keep p l)) ≡ cond (p x) (tick (eqb x y) + count x l) 0
+    go true true e f d ih = rw (e, f) (omega (arith, rw e at ih))
+    go true false e f (yes q) ih = differ q e f
+    go true false e f (no q) ih = rw (e, f) (omega (arith, tick-not x y q, rw e at ih))
+    go false true e f (yes q) ih = differ-back q e f
+    go false true e f (no q) ih = rw (e, f) (omega (arith, tick-not x y q, rw e at ih))
+    go false false e f d ih = rw (e, f) (omega (arith, rw e at ih))
 
 pub length-keep : (p : ℕ → Bool) (l : List ℕ) → length (keep p l) ≡ sum (λ x. tick (p x)) l
 length-keep p [] = refl
@@ -61,6 +87,11 @@ kept-few p (x ∷ xs) = go (p x) (kept-few p xs)
     go : (b : Bool) → length (keep p xs) ≤ length xs → length (cond b (x ∷ keep p xs) (keep p xs)) ≤ suc (length xs)
     go true h = omega arith
     go false h = omega arith
+
+-- none is kept where none passes
+pub keep-none : {A : Type 0} (p : A → Bool) → ((x : A) → p x ≡ false) → (l : List A) → keep p l ≡ []
+keep-none p h [] = refl
+keep-none p h (x ∷ l) = ap (λ b. cond b (x ∷ keep p l) (keep p l)) (h x) ∙ keep-none p h l
 
 -- a sum of few is few
 pub sum-few : (g : ℕ → ℕ) (n : ℕ) → ((x : ℕ) → g x ≤ n) → (l : List ℕ) → sum g l ≤ n * length l

@@ -1,5 +1,5 @@
 -- Sums over two lists in which the same numbers stand once each; sums over the members of a list by their places.
-use mathlib.Core.Path.{_≡_, refl, sym, ap, ap₂, _∙_}
+use mathlib.Core.Path.{_≡_, refl, sym, ap, ap₂, _∙_, subst}
 use mathlib.Core.Bool.{Bool, true, false}
 use mathlib.Core.List.{List, [], _∷_, map}
 use Prim.Native.Nat.{ℕ, zero, suc, _+_, _*_, _≤_, _<_}
@@ -32,6 +32,21 @@ sum-once g l m p q = sum-ext-in g (λ y. g y * count y m) l (once m p) ∙ sym (
   where
     once : (k : List ℕ) {P : ℕ → Type 0} → ((y : ℕ) → P y → count y k ≡ 1) → (y : ℕ) → P y → g y ≡ g y * count y k
     once k h y a = rw (h y a) (omega arith)
+
+-- ── a sum below another ──
+
+sum-less : (g h : ℕ → ℕ) → ((x : ℕ) → g x ≤ h x) → (l : List ℕ) → sum g l ≤ sum h l
+sum-less g h e [] = omega arith
+sum-less g h e (x ∷ l) = omega (arith, e x, sum-less g h e l)
+
+-- no member gives more, and one gives less
+pub sum-below : (g h : ℕ → ℕ) → ((x : ℕ) → g x ≤ h x) → (b : ℕ) → g b < h b → (l : List ℕ) → 1 ≤ count b l → sum g l < sum h l
+sum-below g h e b s [] k = absurd (omega arith)
+sum-below g h e b s (x ∷ l) k = go (ℕ-discrete b x) (sum-below g h e b s l)
+  where
+    go : Dec (b ≡ x) → (1 ≤ count b l → sum g l < sum h l) → g x + sum g l < h x + sum h l
+    go (yes q) ih = omega (arith, subst (λ y. g y < h y) q s, sum-less g h e l)
+    go (no q) ih = omega (arith, e x, ih (omega (arith, tick-not b x q)))
 
 -- ── numbers moved ──
 

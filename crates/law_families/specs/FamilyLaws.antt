@@ -1,17 +1,18 @@
 -- Families by declared parents and by spans: who descends, and how many do.
 use Prim.Native.Nat.{ℕ, zero, suc, _+_, _≤_, _<_}
 use mathlib.Core.Path.{_≡_, refl, sym, ap, _∙_, subst}
-use mathlib.Core.Logic.{_↔_}
+use mathlib.Core.Logic.{_↔_, inl, inr, ⊎-elim}
 use mathlib.Core.List.{List, [], _∷_, _++_}
-use mathlib.Core.Bool.{Bool, true, false, cond, _&&_, _||_}
+use mathlib.Core.Bool.{Bool, true, false, _&&_, _||_}
 use native.Mathlib.Omega.{arith}
-use native.Mathlib.Decide.{ℕ-discrete}
 use lib.Dec.{T, eqb, leb, ltb}
 use borrow.Author.Tests.{ltb-true}
 use lib.ListN.{length, length-append}
 use Rattle.lists.specs.Lists.{concatMap, contains, from}
 use Rattle.lists.specs.ListLaws.{T-true, T-of, and-second}
-use Rattle.law_counting.specs.Counting.{tick, count, sum, bool-ext, count-append, sum-ext, sum-none, sum-ext-in, length-by-counts}
+use Rattle.law_counting.specs.Counting.{tick, count, sum, bool-ext, count-append, count-from}
+use Rattle.law_counting.specs.Counting.{sum-ext, sum-none, sum-ext-in, length-by-counts}
+use Rattle.law_counting.specs.Sums.{sum-below}
 use Rattle.law_counting.specs.Kept.{length-keep, length-kept}
 use Rattle.sheet.specs.Module.{TypeDef, coroutine, typeAt, isStruct}
 use Rattle.sheet.specs.TypeLaws.{struct-known}
@@ -19,9 +20,11 @@ use Rattle.parents.specs.Forest.{entryAt, chain}
 use Rattle.spans.specs.Spans.{roots, under, order, pre, post, descendsBySpan, Reaches, here}
 use Rattle.law_forest.specs.Entries.{isStructEntry, struct-at}
 use Rattle.law_forest.specs.Chain.{reaches→chain, chain→reaches}
-use Rattle.law_forest.specs.Once.{ChainRule, count-under, count-roots, once, order-length}
+use Rattle.law_forest.specs.Once.{ChainRule, count-under, once, order-length}
 use Rattle.law_forest.specs.Family.{Part, part-order, family-test, ready-root}
 use Rattle.families.specs.Families.{isFrom, family, familySize, structCount}
+use Rattle.law_families.specs.Ancestors.{Descent}
+use Rattle.law_families.specs.Chains.{reach-through, reach-line, reach-same}
 
 -- ── tests ──
 
@@ -33,7 +36,7 @@ contains-is x (y ∷ l) = go (eqb x y) (contains-is x l)
     go true e = (λ h. omega arith, λ h. tt)
     go false e = (λ h. omega (arith, e .0 h), λ h. e .1 (omega arith))
 
-and-T3 : (a b c : Bool) → T (a && b && c) ↔ (T a × T b × T c)
+pub and-T3 : (a b c : Bool) → T (a && b && c) ↔ (T a × T b × T c)
 and-T3 false b c = (λ h. absurd h, λ h. h .0)
 and-T3 true false c = (λ h. absurd h, λ h. h .1)
 and-T3 true true c = (λ h. (tt, tt, h), λ h. h .2)
@@ -63,6 +66,23 @@ module _ (most : ℕ) (types : List TypeDef) (rule : ChainRule most types) where
 
   pub from-known : (t a : ℕ) → T (isFrom most types t a) → a < length types
   from-known t a h = struct-known types a (T-true (isStruct (typeAt types a)) ((from-reaches t a) .0 h .1))
+
+  -- families are a forest
+  pub descent : Descent (isFrom most types)
+  descent = record {
+    lower = λ t a h. from-itself t ((from-reaches t a) .0 h .0);
+    upper = λ t a h. from-itself a ((from-reaches t a) .0 h .1);
+    through = λ t a b h k.
+        let x = (from-reaches t a) .0 h in
+        let y = (from-reaches a b) .0 k in
+        (from-reaches t b) .1 (x .0, y .1, reach-through types (x .2) (y .2));
+    line = λ t a b h k.
+        let x = (from-reaches t a) .0 h in
+        let y = (from-reaches t b) .0 k in
+        ⊎-elim (λ r. inl ((from-reaches a b) .1 (x .1, y .1, r))) (λ r. inr ((from-reaches b a) .1 (y .1, x .1, r)))
+        (reach-line types (x .2) (y .2));
+    same = λ a b h k. reach-same most types rule ((from-reaches a b) .0 h .2) ((from-reaches b a) .0 k .2);
+  }
 
   -- ── how many descend ──
 
@@ -137,6 +157,30 @@ module _ (most : ℕ) (types : List TypeDef) (rule : ChainRule most types) where
       let held = isStruct (typeAt types a) && isStruct (typeAt types a) && leb (pre most types a) (pre most types a) in
       let l = ltb-true (pre most types a) (post most types a) (and-second held (ltb (pre most types a) (post most types a)) (sym d)) in
       omega (arith, l, size-span a s)
+
+  -- a family inside another is smaller
+  pub size-smaller : (a b : ℕ) → T (isFrom most types a b) → (a ≡ b → ⊥) → familySize most types a < familySize most types b
+  unfolding familySize family
+  size-smaller a b h n = omega (
+    arith,
+    length-keep (λ t. isFrom most types t a) (from 0 (length types)),
+    length-keep (λ t. isFrom most types t b) (from 0 (length types)),
+    sum-below (λ t. tick (isFrom most types t a)) (λ t. tick (isFrom most types t b))
+        (λ x. tick-less (isFrom most types x a) (isFrom most types x b) (λ k. descent .through x a b k h))
+        b (go (isFrom most types b a) refl (isFrom most types b b) refl) (from 0 (length types))
+        (omega (arith, count-from b 0 (length types) (omega arith) (omega (arith, from-known a b h)))),
+  )
+    where
+      tick-less : (x y : Bool) → (T x → T y) → tick x ≤ tick y
+      tick-less true true f = omega arith
+      tick-less true false f = absurd (f tt)
+      tick-less false y f = omega arith
+
+      go : (p : Bool) → isFrom most types b a ≡ p → (q : Bool) → isFrom most types b b ≡ q →
+          tick (isFrom most types b a) < tick (isFrom most types b b)
+      go true e q f = absurd (n (descent .same a b h (T-of (isFrom most types b a) e)))
+      go false e true f = omega (arith, ap tick e, ap tick f)
+      go false e false f = absurd (subst T f (descent .upper a b h))
 
   -- ── all families ──
 

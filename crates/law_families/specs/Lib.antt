@@ -1,1 +1,4 @@
+pub mod Ancestors
+pub mod Chains
 pub mod FamilyLaws
+pub mod NearestLaws

@@ -8,7 +8,7 @@ use native.Mathlib.Decide.{decLt}
 use lib.Dec.{eqb, leb, ltb}
 use borrow.Author.Tests.{lt-ltb, le-ltb, le-leb}
 use lib.ListN.{length, getD, length-append}
-use Rattle.lists.specs.ListLaws.{T-of, both, getD-concatMapFrom}
+use Rattle.lists.specs.ListLaws.{T-of, both, and-false, getD-concatMapFrom}
 use Rattle.table.specs.TableLaws.{span-two, spanSection-length}
 use Rattle.reader.specs.Reader.{encodeList}
 use Rattle.sheet.specs.Module.{TypeDef, coroutine, Module, typeAt, isStruct}
@@ -23,10 +23,6 @@ use Rattle.law_forest.specs.Accepted.{span-fits}
 use Rattle.law_linked.specs.Sections.{bodyOf, body-last, table-length, joined-length, start-word, section-word}
 
 -- ── tests ──
-
-and-false : (b : Bool) → b && false ≡ false
-and-false true = refl
-and-false false = refl
 
 no-second : (p q r s : Bool) → q ≡ false → p && q && r && s ≡ false
 no-second p q r s e = ap (λ (x : Bool). p && x && r && s) e ∙ ap (λ (x : Bool). x && r && s) (and-false p)

@@ -1,6 +1,5 @@
 -- A renumbering and its way back.
 use mathlib.Core.Path.{_≡_, refl, sym, ap, _∙_}
-use mathlib.Core.Logic.{_↔_}
 use mathlib.Core.Bool.{Bool, true, false, cond, not, _&&_, _||_}
 use mathlib.Core.List.{List, [], _∷_}
 use mathlib.Core.List
@@ -11,7 +10,7 @@ use lib.Dec.{T, eqb, ltb, eqb→eq, eqb-refl, ltb→lt}
 use borrow.Author.Tests.{lt-ltb, le-ltb}
 use lib.ListN.{length, getD, length-map, List·getD-eq-default}
 use Rattle.lists.specs.Lists.{allOf, contains, distinct, from}
-use Rattle.lists.specs.ListLaws.{T-true, length-from, getD-other}
+use Rattle.lists.specs.ListLaws.{T-true, and-T, length-from, getD-other}
 use Rattle.law_counting.specs.Counting.{tick, count, sum, place, tick-is, tick-not, place-in, getD-place, length-by-counts}
 use Rattle.law_counting.specs.Places.{map-from-at}
 use Rattle.sheet.specs.Module.{TypeDef, coroutine, typeAt}
@@ -24,10 +23,6 @@ pub record Bijection (n : ℕ) (π ρ : ℕ → ℕ) : Type 0 where
   pub forth : (t : ℕ) → π (ρ t) ≡ t
   pub below : (t : ℕ) → t < n → π t < n
   pub above : (t : ℕ) → n ≤ t → π t ≡ t
-
-pub and-T : (a b : Bool) → T (a && b) ↔ (T a × T b)
-and-T true b = (λ h. (tt, h), λ h. h .1)
-and-T false b = (λ h. absurd h, λ h. h .0)
 
 -- ── lists with no member twice ──
 

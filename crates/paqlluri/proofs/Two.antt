@@ -5,6 +5,11 @@ use Prim.Native.Nat.{ℕ}
 use Rattle.descends.specs.declared.FamilySize.{FamilySize}
 use Rattle.descends.specs.declared.FamilySize.the-variants.{Size, NotLinked}
 use Rattle.descends.specs.Sizes.{sizeIn, sizeNumbers}
+use Rattle.descends.specs.declared.NearestFamily.{NearestFamily}
+use Rattle.descends.specs.declared.NearestFamily.the-variants.{Found, NoFamily}
+use Rattle.descends.specs.declared.NearestFamily.the-variants as near
+use Rattle.descends.specs.Nearest.{nearestIn, nearestNumbers}
+use Rattle.error.specs.declared.TypeId.{TypeId}
 use Rattle.families.specs.declared.StructCount.{StructCount}
 use Rattle.families.specs.declared.StructCount.the-variants.{Structs, Broken}
 use Rattle.families.specs.Counted.{structsIn, countNumbers}
@@ -19,6 +24,21 @@ module _ (ws : List ℕ) (a : ℕ) {x : FamilySize} (e : x ≡ sizeIn ws a) wher
   size-unlinked q = ap sizeNumbers (sym q ∙ e)
 
 pub ruleset sizes = (size-told, size-unlinked)
+
+module _ (ws : List ℕ) (t u : ℕ) {x : NearestFamily} (e : x ≡ nearestIn ws t u) where
+  pub found-told : {f : TypeId} → x ≡ Found f → 0 ∷ f .0 ∷ [] ≡ nearestNumbers (nearestIn ws t u)
+  unfolding nearestNumbers
+  found-told q = ap nearestNumbers (sym q ∙ e)
+
+  pub none-told : x ≡ NoFamily → 1 ∷ 0 ∷ [] ≡ nearestNumbers (nearestIn ws t u)
+  unfolding nearestNumbers
+  none-told q = ap nearestNumbers (sym q ∙ e)
+
+  pub nearest-unlinked : x ≡ near.NotLinked → 25 ∷ 0 ∷ [] ≡ nearestNumbers (nearestIn ws t u)
+  unfolding nearestNumbers
+  nearest-unlinked q = ap nearestNumbers (sym q ∙ e)
+
+pub ruleset nearests = (found-told, none-told, nearest-unlinked)
 
 module _ (sheet : List ℕ) {x : StructCount} (e : x ≡ structsIn sheet) where
   pub count-told : {n : ℕ} → x ≡ Structs n → 0 ∷ n ∷ [] ≡ countNumbers (structsIn sheet)

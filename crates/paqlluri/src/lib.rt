@@ -11,6 +11,8 @@ use error::TypeId;
 use error::numbers::numbers;
 use families::StructCount;
 
+pub mod nearest;
+
 // Loads a sheet under a host list; answers the six numbers.
 #[no_mangle]
 pub extern "C" fn paqlluri_load(

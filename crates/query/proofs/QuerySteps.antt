@@ -7,8 +7,8 @@ use native.Mathlib.Omega.{arith}
 use native.Mathlib.Decide.{decLt}
 use lib.Dec.{eqb, leb, ltb}
 use lib.ListN.{length, getD}
-use borrow.Author.Tests.{leb-true, le-leb, lt-leb, eqb-true, eq-eqb, ne-eqb, lt-ltb, le-ltb}
-use Rattle.lists.specs.ListLaws.{and-first, and-second}
+use borrow.Author.Tests.{le-leb, lt-leb, eq-eqb, ne-eqb, lt-ltb, le-ltb}
+use Rattle.descends.specs.DescendsLaws.{linked}
 use Rattle.descends.specs.Descends.{tableLength, spansStart, spanCount, spansEnd, isLinked, preIn, postIn, isWithin, descends}
 
 -- a test in a row that fails
@@ -92,24 +92,6 @@ module _ (ws : List ℕ) where
         ∙ ap (λ x. x && D && E) (le-leb (getD ws 1 0) (length ws) (omega (arith, e)))
         ∙ ap (λ x. x && E) (le-leb 10 (getD ws 9 0) (omega (arith, s))))
 
-  -- what a linked table says of its words
-  pub record Linked : Type 0 where
-    pub header : 10 ≤ length ws
-    pub table : getD ws 1 0 ≤ length ws
-    pub spans : getD ws 9 0 + 1 + 2 * getD ws (getD ws 9 0) 0 ≤ getD ws 1 0
-
-  pub linked : isLinked ws ≡ true → Linked
-  linked h =
-      let k = sym five ∙ h in
-      let d = and-first (A && B && C && D) E k in
-      let c = and-first (A && B && C) D d in
-      let b = and-first (A && B) C c in
-      record {
-        header = leb-true 10 (length ws) (and-first A B b);
-        table = leb-true (getD ws 1 0) (length ws) (and-second (A && B) C c);
-        spans = leb-true (getD ws 9 0 + 1 + 2 * getD ws (getD ws 9 0) 0) (getD ws 1 0) (and-second (A && B && C && D) E k);
-      }
-
 pub ruleset linking = (few, other-edition, long, early, past, last-test)
 
 -- ── whether the span of a holds t ──
@@ -164,15 +146,20 @@ module _ (ws : List ℕ) (t a : ℕ) {start count : ℕ} (s : start ≡ spansSta
 pub ruleset withins = (unknown-t, unknown-a, before, last-of-four)
 
 -- what the query asks of a linked table
-pub spans-inside : (ws : List ℕ) {start count : ℕ} → isLinked ws ≡ true → start ≡ getD ws 9 0 → count ≡ getD ws start 0 →
-    (start ≡ spansStart ws) × ((count ≡ spanCount ws) × (start + 1 + 2 * count ≤ length ws))
-unfolding spansStart spanCount
-spans-inside ws {start} {count} h s c =
-    let k : count ≡ getD ws (getD ws 9 0) 0 = c ∙ ap (λ k. getD ws k 0) s in
-    (s, (k, omega (arith, s, k, linked ws h .table, linked ws h .spans)))
+module _ (ws : List ℕ) {start : ℕ} (h : isLinked ws ≡ true) (s : start ≡ getD ws 9 0) where
+  start-is : start ≡ spansStart ws
+  unfolding spansStart
+  start-is = s
 
-pub start-inside : (ws : List ℕ) {start : ℕ} → isLinked ws ≡ true → start ≡ getD ws 9 0 → start < length ws
-start-inside ws h s = omega (arith, s, linked ws h .table, linked ws h .spans)
+  pub start-inside : start < length ws
+  start-inside = omega (arith, start-is, linked ws h .room)
+
+  pub spans-inside : {count : ℕ} → count ≡ getD ws start 0 →
+      (start ≡ spansStart ws) × ((count ≡ spanCount ws) × (start + 1 + 2 * count ≤ length ws))
+  unfolding spanCount
+  spans-inside c =
+      let k : _ ≡ spanCount ws = c ∙ ap (λ k. getD ws k 0) start-is in
+      (start-is, (k, omega (arith, start-is, k, linked ws h .room)))
 
 pub header-inside : (ws : List ℕ) → isLinked ws ≡ true → 9 < length ws
 header-inside ws h = omega (arith, linked ws h .header)

@@ -16,8 +16,8 @@ fn wide(x: u32) -> usize
     x as usize
 }
 
-// How many spans the words say there are.
-fn count_at(table: &[u32], start: usize) -> usize
+// A word of the table.
+pub fn word_at(table: &[u32], start: usize) -> usize
     requires { ⌜ start < length (now table) ⌝ }
     ensures { λ r. ⌜ r ≡ getD (now (table .entry)) start 0 ⌝ }
     ensures { λ r. ⌜ r < 4294967296 ⌝ }
@@ -26,7 +26,7 @@ fn count_at(table: &[u32], start: usize) -> usize
 }
 
 // Edition 1, and a spans section inside the L words. Twice a count of 32 bits does not wrap.
-fn is_linked(table: &[u32]) -> bool
+pub fn is_linked(table: &[u32]) -> bool
     ensures { λ r. ⌜ r ≡ isLinked (now (table .entry)) ⌝ }
 {
     if table.len() < 10 {
@@ -46,7 +46,7 @@ fn is_linked(table: &[u32]) -> bool
     if end <= start {
         return false;
     }
-    2 * count_at(table, start) < end - start
+    2 * word_at(table, start) < end - start
 }
 
 // Both numbers are known, and pre(a) ≤ pre(t) < post(a).
@@ -112,7 +112,7 @@ fn known_width(table: &[u32], a: u32) -> u32
     ensures { λ r. ⌜ r ≡ knownWidth (now (table .entry)) a ⌝ }
 {
     let start = at(table, 9);
-    if count_at(table, start) <= a as usize {
+    if word_at(table, start) <= a as usize {
         return 0;
     }
     width_at(table, start, a)

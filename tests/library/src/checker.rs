@@ -2,7 +2,8 @@
 
 use bvm_lang::{descends, table_words, Program};
 use compare::{
-    answer, asked_numbers, descends_by_parents, load, pair_difference, query, StoredCase,
+    answer, asked_numbers, descends_by_parents, load, nearest_difference, pair_difference, query,
+    StoredCase,
 };
 use generator::{case, pair, Case, Draft, Rng};
 use paqlluri::LoadError;
@@ -65,7 +66,8 @@ impl<'l, L: Loader> Checker<'l, L> {
         let structs = self.count(&case.sheet, intact.as_ref())?;
         let Some(program) = program else {
             self.tally.coverage.add_numbers(numbers, None);
-            return self.foreign_size(rng);
+            self.foreign_size(rng)?;
+            return self.foreign_nearest(rng);
         };
         let sheet = intact.ok_or("accepted and not intact")?;
         self.tally.coverage.add_numbers(numbers, Some(&sheet));
@@ -78,7 +80,8 @@ impl<'l, L: Loader> Checker<'l, L> {
                 "the root families have {of_roots} types, the sheet {structs} structs"
             ));
         }
-        self.altered_sizes(rng)
+        self.altered_sizes(rng)?;
+        self.nearest_families(rng, &sheet)
     }
 
     /// Pair `open_index` of a seed, as demand 3 says.
@@ -110,9 +113,13 @@ impl<'l, L: Loader> Checker<'l, L> {
         self.tally.accepted_pairs += 1;
         let second = &self.table.now()[..others[2] as usize];
         let asked = asked_numbers(rng, images.len(), ASKED);
-        self.tally.queries += 2 * (asked.len() * asked.len()) as u64;
+        let (pairs, tables) = ((asked.len() * asked.len()) as u64, [&first[..], second]);
+        self.tally.queries += 2 * pairs;
+        self.tally.moved += pairs;
         let query = |table: &[u32], t, a| self.loader.descends(table, t, a);
-        match pair_difference(images, &asked, [&first, second], query) {
+        let nearest = |table: &[u32], t, u| self.loader.nearest(table, t, u);
+        let differs = pair_difference(images, &asked, tables, query);
+        match differs.or_else(|| nearest_difference(images, &asked, tables, nearest)) {
             Some(what) => Err(format!("tables of a renumbered pair differ in {what}")),
             None => Ok(()),
         }

@@ -1,60 +1,11 @@
 //! The sizes of families and the counts of structs against brute force.
 
-use std::mem::replace;
-
 use compare::{family_sizes, is_root, size_in, struct_count};
 use generator::Rng;
 use sheets::Sheet;
 
+use crate::damage::{some_number, Damage, ALTERED};
 use crate::{Checker, Loader};
-
-/// How many tables with an altered word are asked of for each accepted sheet.
-const ALTERED: usize = 8;
-
-/// One word of a table altered, the table cut, and the type that is then asked about.
-struct Damage {
-    place: usize,
-    word: u32,
-    end: usize,
-    a: u32,
-}
-
-impl Damage {
-    /// To the header, to the count of the spans, or to the span of the type, near a number that matters there.
-    fn draw(rng: &mut Rng, table: &[u32]) -> Damage {
-        let (length, spans) = (table[1], table[9]);
-        let count = table[spans as usize];
-        let unknown = rng.pick(&[count, count + 1, u32::MAX]);
-        let known = rng.index(count.max(1) as usize);
-        let a = if rng.one_in(5) { unknown } else { known };
-        // Where it has none, that of the first type, or what stands behind the table.
-        let own = spans + 1 + if a < count { 2 * a } else { 0 };
-        let (pre, post) = (table[own as usize], table[own as usize + 1]);
-        let place = rng.pick(&[0, 1, 9, spans, own, own, own + 1, own + 1]) as usize;
-        let near = rng.pick(&[
-            0,
-            2,
-            10,
-            spans,
-            length,
-            table.len() as u32,
-            count,
-            pre,
-            post,
-        ]);
-        let (any, half) = (rng.word(), 1 << 31);
-        let word = rng.pick(&[near, near.wrapping_add(1), near.wrapping_sub(1), half, any]);
-        let (last, all) = (length as usize, table.len());
-        let cut = rng.pick(&[0, 9, 10, 11, last - 1, last]);
-        let end = if rng.one_in(4) { cut } else { all };
-        Damage {
-            place,
-            word,
-            end,
-            a,
-        }
-    }
-}
 
 impl<L: Loader> Checker<'_, L> {
     /// The size of every family, and of numbers that no type has, on the table as load left it: as many as descend by
@@ -89,22 +40,12 @@ impl<L: Loader> Checker<'_, L> {
     pub(crate) fn altered_sizes(&mut self, rng: &mut Rng) -> Result<(), String> {
         let table = self.table.now_mut();
         for _ in 0..ALTERED {
-            let Damage {
-                place,
-                word,
-                end,
-                a,
-            } = Damage::draw(rng, table);
-            let kept = replace(&mut table[place], word);
-            let found = self.loader.family_size(&table[..end], a);
-            let expected = size_in(&table[..end], a);
+            let a = some_number(rng, table);
+            let damage = Damage::draw(rng, table, a);
+            let found = |words: &[u32]| self.loader.family_size(words, a);
+            let held = damage.held(table, found, |words| size_in(words, a));
+            let expected = held.map_err(|what| format!("size of {a}: {what}"))?;
             self.tally.add_size(expected);
-            if found != expected {
-                return Err(format!(
-                    "size of {a}: {found:?} and not {expected:?} with word {place} altered to {word}, the table cut to {end} words"
-                ));
-            }
-            table[place] = kept;
         }
         Ok(())
     }

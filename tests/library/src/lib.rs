@@ -1,9 +1,11 @@
 //! A loader against the reference: every answer, every lent word, every family, case by case.
 
 mod checker;
+mod damage;
 mod families;
 mod lent;
 mod loader;
+mod nearest;
 mod run;
 mod tally;
 

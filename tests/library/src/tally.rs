@@ -27,6 +27,15 @@ pub struct Tally {
     /// Sheets whose structs were counted, and those of them that are kind 1.
     pub counts: u64,
     pub broken: u64,
+    /// Nearest families that were asked for: those that are found, none, and kind 25.
+    pub nearest: [u64; 3],
+    /// Accepted sheets of which all pairs were asked for.
+    pub all_pairs: u64,
+    /// Triples of types that have a nearest family, that have none, and whose first two descend from the third.
+    pub triples: [u64; 2],
+    pub both_descend: u64,
+    /// Nearest families that were compared with those of a renumbered sheet.
+    pub moved: u64,
 }
 
 impl Tally {
@@ -52,13 +61,33 @@ impl Tally {
         self.broken += u64::from(kind == 1);
     }
 
+    pub fn add_nearest(&mut self, [kind, _]: [u32; 2]) {
+        let place = match kind {
+            0 | 1 => kind as usize,
+            _ => 2,
+        };
+        self.nearest[place] += 1;
+    }
+
+    pub fn add_triple(&mut self, [kind, _]: [u32; 2]) {
+        self.triples[usize::from(kind != 0)] += 1;
+    }
+
     /// What no case has hit, in words.
     pub fn missed(&self) -> Vec<String> {
         let mut missed = self.coverage.missed();
+        let ([found, none, not_linked], [together, apart]) = (self.nearest, self.triples);
         let others = [
             (self.counts - self.broken, "a count of kind 0"),
             (self.broken, "a count of kind 1"),
             (self.not_linked, "a size of kind 25"),
+            (found, "a nearest family of kind 0"),
+            (none, "a nearest family of kind 1"),
+            (not_linked, "a nearest family of kind 25"),
+            (together, "a triple of kind 0"),
+            (apart, "a triple of kind 1"),
+            (self.both_descend, "a family that both descend from"),
+            (self.moved, "a nearest family of a renumbered pair"),
         ];
         let unmet = others.iter().filter(|(hits, _)| *hits == 0);
         missed.extend(unmet.map(|(_, name)| (*name).to_string()));
@@ -83,7 +112,47 @@ impl Tally {
         self.not_linked += other.not_linked;
         self.counts += other.counts;
         self.broken += other.broken;
+        add(&mut self.nearest, &other.nearest);
+        self.all_pairs += other.all_pairs;
+        add(&mut self.triples, &other.triples);
+        self.both_descend += other.both_descend;
+        self.moved += other.moved;
     }
+
+    /// The lines about what the reference does not have.
+    fn fmt_families(&self, f: &mut fmt::Formatter<'_>) -> fmt::Result {
+        writeln!(
+            f,
+            "{} sizes of families agree, {} of them kind 25",
+            self.sizes, self.not_linked
+        )?;
+        writeln!(
+            f,
+            "{} counts of structs agree, {} of them kind 1",
+            self.counts, self.broken
+        )?;
+        let ([_, none, not_linked], [_, apart]) = (self.nearest, self.triples);
+        let [asked, triples] = [&self.nearest[..], &self.triples].map(|n| n.iter().sum::<u64>());
+        writeln!(
+            f,
+            "{asked} nearest families agree, {none} of them kind 1, {not_linked} kind 25; all pairs of {} sheets",
+            self.all_pairs
+        )?;
+        writeln!(
+            f,
+            "{triples} triples of types agree, {apart} of them kind 1; in {} the first two descend from the third",
+            self.both_descend
+        )?;
+        writeln!(
+            f,
+            "{} nearest families of renumbered pairs agree",
+            self.moved
+        )
+    }
+}
+
+fn add(to: &mut [u64], from: &[u64]) {
+    to.iter_mut().zip(from).for_each(|(to, from)| *to += from);
 }
 
 impl fmt::Display for Tally {
@@ -100,16 +169,7 @@ impl fmt::Display for Tally {
             self.pairs, self.accepted_pairs, self.other_kind_pairs
         )?;
         writeln!(f, "{} family queries agree", self.queries)?;
-        writeln!(
-            f,
-            "{} sizes of families agree, {} of them kind 25",
-            self.sizes, self.not_linked
-        )?;
-        writeln!(
-            f,
-            "{} counts of structs agree, {} of them kind 1",
-            self.counts, self.broken
-        )?;
+        self.fmt_families(f)?;
         if self.left_out > 0 {
             writeln!(f, "{} cases left out: large host lists", self.left_out)?;
         }

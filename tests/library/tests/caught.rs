@@ -20,6 +20,9 @@ type AlterQuery = fn(u32, u32, u32) -> u32;
 /// What is done to a family's size, given the table and the type.
 type AlterSize = fn(&mut [u32; 2], &[u32], u32);
 
+/// What is done to a nearest family, given the table and the pair.
+type AlterNearest = fn(&mut [u32; 2], &[u32], [u32; 2]);
+
 /// What is done to a count, given the sheet.
 type AlterCount = fn(&mut [u32; 2], &[u8]);
 
@@ -27,6 +30,7 @@ struct Wrong {
     load: Alter,
     query: AlterQuery,
     size: AlterSize,
+    nearest: AlterNearest,
     count: AlterCount,
 }
 
@@ -35,6 +39,7 @@ const RIGHT: Wrong = Wrong {
     load: |_, _, _| (),
     query: |answer, _, _| answer,
     size: |_, _, _| (),
+    nearest: |_, _, _| (),
     count: |_, _| (),
 };
 
@@ -52,6 +57,12 @@ impl Loader for Wrong {
     fn family_size(&self, table: &[u32], a: u32) -> [u32; 2] {
         let mut answer = Library.family_size(table, a);
         (self.size)(&mut answer, table, a);
+        answer
+    }
+
+    fn nearest(&self, table: &[u32], t: u32, u: u32) -> [u32; 2] {
+        let mut answer = Library.nearest(table, t, u);
+        (self.nearest)(&mut answer, table, [t, u]);
         answer
     }
 
@@ -80,6 +91,26 @@ fn caught_size(size: AlterSize) -> String {
     found(&Wrong { size, ..RIGHT }).what
 }
 
+/// Each of these ways is the first to tell it in some case.
+fn assert_caught_nearest(nearest: AlterNearest, ways: &[&str]) {
+    let wrong = Wrong { nearest, ..RIGHT };
+    let of_case = |from| {
+        let cases = 1;
+        run(
+            &wrong,
+            &Plan {
+                from,
+                cases,
+                ..PLAN
+            },
+        )
+    };
+    for way in ways {
+        let tells = |from| of_case(from).is_err_and(|found| found.what.contains(way));
+        assert!((0..PLAN.cases).any(tells), "{way}");
+    }
+}
+
 fn caught_count(count: AlterCount) -> String {
     found(&Wrong { count, ..RIGHT }).what
 }
@@ -102,6 +133,10 @@ fn the_library_is_not_caught() {
             tally.broken > 20 && tally.counts > 3 * tally.broken,
             "{tally}"
         );
+        assert!(tally.nearest.iter().all(|&n| n > 1_000), "{tally}");
+        assert!(tally.triples.iter().all(|&n| n > 400), "{tally}");
+        assert!(tally.both_descend > 400 && tally.moved > 1_000, "{tally}");
+        assert!(tally.all_pairs > 100, "{tally}");
     }
 }
 
@@ -242,6 +277,131 @@ fn a_size_on_words_that_no_load_wrote() {
     }
     // On words that are no table at all.
     assert_says(&caught_size(|size, _, _| size[0] = 0), "size of");
+}
+
+/// A type with pre and post.
+type Spanned = (u32, (u32, u32));
+
+/// Each known type, where the words are a linked table.
+fn spans(table: &[u32]) -> Vec<Spanned> {
+    let known = |a| span(table, a).map(|span| (a, span));
+    (0..).map_while(known).collect()
+}
+
+/// Those whose span holds all of these types.
+fn holding(table: &[u32], types: [u32; 2]) -> Vec<Spanned> {
+    let holds = |a| types.iter().all(|&t| Library.descends(table, t, a) == 1);
+    let mut all = spans(table);
+    all.retain(|&(a, _)| holds(a));
+    all
+}
+
+/// Puts the first type of least width among these into the answer, unless that is 25.
+fn answer(nearest: &mut [u32; 2], types: impl Iterator<Item = Spanned>) {
+    let least = types.min_by_key(|&(_, (pre, post))| post.wrapping_sub(pre));
+    if nearest[0] != 25 {
+        *nearest = least.map_or([1, 0], |(a, _)| [0, a]);
+    }
+}
+
+#[test]
+fn a_nearest_family_by_another_rule() {
+    let alters: [AlterNearest; 4] = [
+        // The test of the first type alone, and of the second; the first that holds both.
+        |nearest, table, [t, _]| answer(nearest, holding(table, [t, t]).into_iter()),
+        |nearest, table, [_, u]| answer(nearest, holding(table, [u, u]).into_iter()),
+        |nearest, table, types| answer(nearest, holding(table, types).into_iter().take(1)),
+        // The least of all spans, if it holds both.
+        |nearest, table, types| {
+            let upright = |&(_, (pre, post)): &Spanned| pre < post;
+            answer(nearest, spans(table).into_iter().filter(upright));
+            let least = nearest[1];
+            if nearest[0] == 0 && holding(table, types).iter().all(|&(a, _)| a != least) {
+                *nearest = [1, 0];
+            }
+        },
+    ];
+    for alter in alters {
+        assert_caught_nearest(alter, &["declared", "invented"]);
+    }
+}
+
+#[test]
+fn a_number_of_a_nearest_family() {
+    let alters: [AlterNearest; 4] = [
+        // 25 for numbers that no type has; none as 0 0; a number beside none; the second type where it is the lower.
+        |nearest, table, types| {
+            if types.iter().any(|&t| span(table, t).is_none()) {
+                *nearest = [25, 0];
+            }
+        },
+        |nearest, _, _| nearest[0] -= u32::from(nearest[0] == 1),
+        |nearest, _, [t, _]| nearest[1] += t * u32::from(nearest[0] == 1),
+        |nearest, _, [t, u]| {
+            if t > u && nearest[0] == 0 {
+                nearest[1] = u;
+            }
+        },
+    ];
+    for alter in alters {
+        assert_caught_nearest(alter, &["declared"]);
+    }
+    // Not the image of what it is in the other sheet of a pair.
+    assert_caught_nearest(|nearest, _, _| nearest[1] = 0, &["declared", "renumbered"]);
+}
+
+#[test]
+fn a_nearest_family_on_words_that_no_load_wrote() {
+    let alters: [AlterNearest; 3] = [
+        // The last of equal spans; any type with itself; a difference that wraps where post is below pre.
+        |nearest, table, types| answer(nearest, holding(table, types).into_iter().rev()),
+        |nearest, table, [t, u]| {
+            if t == u && span(table, t).is_some_and(|(pre, _)| pre < u32::MAX) {
+                *nearest = [0, t];
+            }
+        },
+        |nearest, table, types| {
+            let [Some((t, _)), Some((u, _))] = types.map(|t| span(table, t)) else {
+                return;
+            };
+            let holds = |&(_, (pre, post)): &Spanned| {
+                let within = |t: u32| t.wrapping_sub(pre) < post.wrapping_sub(pre);
+                pre < u32::MAX && within(t) && within(u)
+            };
+            answer(nearest, spans(table).into_iter().filter(holds));
+        },
+    ];
+    for alter in alters {
+        assert_caught_nearest(alter, &["altered", "invented"]);
+    }
+}
+
+/// Whether the words would be a linked table if the end of the spans were a sum in 32 bits.
+fn is_linked_in_32_bits(table: &[u32]) -> bool {
+    let Some(&[1, length, .., start]) = table.first_chunk::<10>() else {
+        return false;
+    };
+    let end = |count: &u32| count.wrapping_mul(2).wrapping_add(start + 1);
+    let fits = |count| end(count) <= length;
+    length as usize <= table.len() && start >= 10 && table.get(start as usize).is_some_and(fits)
+}
+
+#[test]
+fn a_nearest_family_where_there_is_no_table() {
+    let alters: [AlterNearest; 3] = [
+        // 25 missed, where the first word is as it is to be, and where a sum wraps; 25 behind numbers that no type has.
+        |nearest, table, _| nearest[0] %= 25 + u32::from(table.first() != Some(&1)),
+        |nearest, table, _| nearest[0] %= 25 + u32::from(!is_linked_in_32_bits(table)),
+        |nearest, _, types| {
+            if types.contains(&u32::MAX) {
+                *nearest = [1, 0];
+            }
+        },
+    ];
+    for alter in alters {
+        assert_caught_nearest(alter, &["altered"]);
+    }
+    assert_caught_nearest(|nearest, _, _| nearest[0] %= 25, &["altered", "left alone"]);
 }
 
 /// The kind of load's answer, with words enough, under the host list of the samples.

@@ -26,16 +26,27 @@ fn kind_on(stack: usize, sheet: Vec<u8>, hosts: Vec<u8>) -> u32 {
     on(stack, call)[0]
 }
 
-/// A sheet of one chain of so many types.
-fn chain(types: u32) -> Vec<u8> {
+/// A sheet of so many types, by their parents.
+fn forest(types: u32, parent: fn(u32) -> Option<u32>) -> Vec<u8> {
     encode_sheet(&Sheet {
         strings: vec![b"Lift".to_vec()],
-        types: (0..types)
-            .map(|t| structure(t.checked_sub(1), &[]))
-            .collect(),
+        types: (0..types).map(|t| structure(parent(t), &[])).collect(),
         ..Sheet::default()
     })
     .to_bytes()
+}
+
+/// A sheet of one chain of so many types.
+fn chain(types: u32) -> Vec<u8> {
+    forest(types, |t| t.checked_sub(1))
+}
+
+/// The table of a sheet that is accepted.
+fn table(sheet: &[u8]) -> Vec<u32> {
+    let words = paqlluri::table_words(sheet.len());
+    let (mut table, mut work) = (vec![0; words], vec![0; words]);
+    assert_eq!(Library.load(sheet, &list(0), &mut table, &mut work)[0], 0);
+    table
 }
 
 /// A list of so many functions.
@@ -58,12 +69,19 @@ fn counts_and_sizes_fit_the_small_stack() {
         let count = move || Library.count_structs(&sheet);
         assert_eq!(on(STACK, count), [0, types]);
     }
-    let (sheet, hosts) = (chain(256), list(0));
-    let words = paqlluri::table_words(sheet.len());
-    let (mut table, mut work) = (vec![0; words], vec![0; words]);
-    Library.load(&sheet, &hosts, &mut table, &mut work);
+    let table = table(&chain(256));
     let sizes = move || [0, 255, 256].map(|a| Library.family_size(&table, a));
     assert_eq!(on(STACK, sizes), [[0, 256], [0, 1], [0, 0]]);
+}
+
+#[test]
+fn nearest_families_fit_the_small_stack() {
+    let table_of_chain = table(&chain(256));
+    let nearest = move || [0, 255, 256].map(|u| Library.nearest(&table_of_chain, 255, u));
+    assert_eq!(on(STACK, nearest), [[0, 0], [0, 255], [1, 0]]);
+    let table_of_fan = table(&forest(100_000, |t| t.checked_sub(1).map(|_| 0)));
+    let nearest = move || [0, 1, 99_999].map(|u| Library.nearest(&table_of_fan, 99_999, u));
+    assert_eq!(on(STACK, nearest), [[0, 0], [0, 0], [0, 99_999]]);
 }
 
 #[test]

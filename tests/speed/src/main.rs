@@ -1,5 +1,6 @@
 //! Time of the proved library beside program.rs with its decoder, on the same bytes.
 
+mod queries;
 mod shapes;
 
 use std::hint::black_box;
@@ -14,6 +15,7 @@ const USAGE: &str = "usage:
   speed SHAPE                        one of them
   speed descends                     the family query
   speed sizes                        the size of a family
+  speed nearest                      the nearest family of two types
   speed report                       what the report asks of a sheet
   speed shapes                       their names and largest sizes
   speed ours|rust|none SHAPE N       one call, for a count of instructions";
@@ -83,14 +85,14 @@ fn least<T>(mut run: impl FnMut() -> T) -> f64 {
 }
 
 /// Five sizes, each eight times the one before.
-fn sizes(most: usize) -> Vec<usize> {
+fn steps(most: usize) -> Vec<usize> {
     let all = [4096, 512, 64, 8, 1].map(|d| most / d);
     all.into_iter().filter(|&n| n > 1).collect()
 }
 
 fn table(shape: &Shape) {
     let mut last: Option<(f64, f64)> = None;
-    for n in sizes(shape.most) {
+    for n in steps(shape.most) {
         let mut lent = Lent::new(shape, n);
         let ours = least(|| lent.ours().words().len());
         let rust = least(|| lent.rust());
@@ -107,35 +109,6 @@ fn table(shape: &Shape) {
     }
 }
 
-/// Queries over types spread through chains of 256, a million of them.
-fn descends(shape: &Shape) {
-    const QUERIES: u32 = 1_000_000;
-    for n in sizes(shape.most) {
-        let mut lent = Lent::new(shape, n);
-        let program = lent.rust();
-        let linked = lent.ours();
-        let pair = |k: u32| {
-            let t = k.wrapping_mul(2_654_435_761) % n as u32;
-            (t, t - k % 256 % (t + 1))
-        };
-        let ask = |yes: &dyn Fn(u32, u32) -> bool| {
-            (0..QUERIES)
-                .filter(|&k| {
-                    let (t, a) = pair(k);
-                    yes(t, a)
-                })
-                .count()
-        };
-        let ours = |t, a| linked.descends(TypeId(t), TypeId(a));
-        let rust = |t, a| bvm_lang::descends(&program, t, a);
-        assert_eq!(ask(&ours), ask(&rust), "the answers differ");
-        let each = |time: f64| time / f64::from(QUERIES);
-        let (mine, theirs) = (each(least(|| ask(&ours))), each(least(|| ask(&rust))));
-        let ratio = theirs / mine;
-        println!("| descends | {n} | {mine:.1} | {theirs:.1} | {ratio:.2} |");
-    }
-}
-
 /// How many types a table has a span for.
 fn types(linked: &Linked) -> u32 {
     let words = linked.words();
@@ -146,18 +119,6 @@ fn types(linked: &Linked) -> u32 {
 fn all_sizes(linked: &Linked) -> u64 {
     let size = |a| u64::from(linked.family_size(TypeId(a)));
     (0..types(linked)).map(size).sum()
-}
-
-/// Sizes of families spread through chains of 256, a million of them.
-fn size_queries(shape: &Shape) {
-    const QUERIES: u32 = 1_000_000;
-    for n in sizes(shape.most) {
-        let mut lent = Lent::new(shape, n);
-        let linked = lent.ours();
-        let size = |k: u32| linked.family_size(TypeId(k.wrapping_mul(2_654_435_761) % n as u32));
-        let time = least(|| (0..QUERIES).map(|k| u64::from(size(k))).sum::<u64>());
-        println!("| sizes | {n} | {:.1} |", time / f64::from(QUERIES));
-    }
 }
 
 /// What the report asks of a sheet, part by part, at five sizes, each four times the one before.
@@ -194,8 +155,9 @@ fn run(args: &[String]) -> Option<()> {
                 _ => return None,
             }
         }
-        ["descends"] => descends(shape("chains")?),
-        ["sizes"] => size_queries(shape("chains")?),
+        ["descends"] => queries::descends(shape("chains")?),
+        ["sizes"] => queries::sizes(shape("chains")?),
+        ["nearest"] => queries::nearest(shape("chains")?),
         ["report"] => {
             println!(
                 "| shape | types | blocks | load µs | sizes µs | count µs | ns a word | all µs | ns a word |"

@@ -28,8 +28,8 @@ returns-4 c = search (needs, linking)
 returns-5 : tie.Need-returns-5
 returns-5 c = search (needs, linking)
 
-count-at-requires : tie.Need-count-at-requires
-count-at-requires c κs = search (needs, linking)
+word-at-requires : tie.Need-word-at-requires
+word-at-requires c κs = search (needs, linking)
 
 mul-result : tie.Need-mul-result
 mul-result c = search (needs, linking)
@@ -52,7 +52,7 @@ is-linked-spec =
     returns-3
     returns-4
     returns-5
-    count-at-requires
+    word-at-requires
     mul-result
     sub-result
     returns-6)

@@ -7,13 +7,13 @@ use Rattle.query.proofs.known_width.Tie as tie
 at-requires : tie.Need-at-requires
 at-requires c κs = search (needs, known)
 
-count-at-requires : tie.Need-count-at-requires
-count-at-requires c κs = search (needs, known)
+word-at-requires : tie.Need-word-at-requires
+word-at-requires c κs = search (needs, known)
 
 width-at-requires : tie.Need-width-at-requires
 width-at-requires c κs =
     let start = c .before .before in
-    span-inside _ _ (start .before .before .pre) (start .at .ensures) (c .before .count-at .ensures .0) (c .if1 .left)
+    span-inside _ _ (start .before .before .pre) (start .at .ensures) (c .before .word-at .ensures .0) (c .if1 .left)
 
 returns : tie.Need-returns
 returns c = search (needs, known)
@@ -23,4 +23,4 @@ returns-2 c = search (needs, known)
 
 pub known-width-spec : {M : Type 1} → statement M
 known-width-spec =
-    tie.close (tie.spec at-requires count-at-requires returns width-at-requires returns-2)
+    tie.close (tie.spec at-requires word-at-requires returns width-at-requires returns-2)

@@ -11,6 +11,11 @@ pub fn descends(program: &Program, t: u32, a: u32) -> bool {
     program.descends(t, a)
 }
 
+/// The parent that a struct declares, by the Rust.
+pub fn parent(program: &Program, t: u32) -> Option<u32> {
+    program.struct_info(t)?.parent
+}
+
 /// The words of the linked table.
 pub fn table_words(program: &Program, host: &Host) -> Vec<u32> {
     let mut sections: [Vec<u32>; 8] = Default::default();

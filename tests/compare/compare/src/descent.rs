@@ -1,6 +1,11 @@
 //! Descent by declared parents, by brute force, and images under a renumbering.
 
+use std::iter::successors;
+
 use sheets::{Sheet, TypeEntry};
+
+/// The most types on a chain of an accepted sheet: no longer walk is needed.
+const MOST_ON_CHAIN: usize = 256;
 
 /// The parent that a struct type declares, if it declares one; none at all for what is no struct.
 pub(crate) fn parent_of(sheet: &Sheet, t: u32) -> Option<Option<u32>> {
@@ -8,6 +13,13 @@ pub(crate) fn parent_of(sheet: &Sheet, t: u32) -> Option<Option<u32>> {
         Some(TypeEntry::Struct { parent, .. }) => Some(*parent),
         _ => None,
     }
+}
+
+/// A struct type, then those that its declared parents lead to; none for what is no struct.
+pub fn chain(sheet: &Sheet, t: u32) -> impl Iterator<Item = u32> + '_ {
+    let entry = |n| parent_of(sheet, n).map(|parent| (n, parent));
+    let walk = successors(entry(t), move |&(_, parent)| parent.and_then(entry));
+    walk.map(|(n, _)| n).take(MOST_ON_CHAIN)
 }
 
 /// Whether both numbers are struct types and `a` is `t` or is reached from it by declared parents.

@@ -1,16 +1,11 @@
 //! Families by brute force, from the declarations alone: how many types descend from each, how many structs there are,
 //! and the report over sheets.
 
-use std::iter::successors;
-
 use sheets::{decode_sheet, Sheet, BLOCK};
 
 use crate::answer;
-use crate::descent::parent_of;
+use crate::descent::{chain, parent_of};
 use crate::words::spaced;
-
-/// The most types on a chain of an accepted sheet: no longer walk is needed.
-const MOST_ON_CHAIN: usize = 256;
 
 /// The most bytes that a program takes of a file; one with more counts as no bytes.
 pub(crate) const MOST_BYTES: usize = 16 * BLOCK;
@@ -20,8 +15,7 @@ pub fn family_sizes(sheet: &Sheet) -> Vec<u32> {
     let mut sizes = vec![0; sheet.types.len()];
     for t in 0..sheet.types.len() as u32 {
         // It is one of its own, and one of each that its declared parents lead to.
-        let chain = successors(Some(t), |&n| parent_of(sheet, n).flatten()).take(MOST_ON_CHAIN);
-        for a in chain.filter(|&a| parent_of(sheet, a).is_some()) {
+        for a in chain(sheet, t) {
             sizes[a as usize] += 1;
         }
     }
@@ -75,43 +69,9 @@ pub fn report(hosts: &[u8], files: &[Vec<u8>]) -> Vec<String> {
 mod tests {
     use super::*;
     use crate::descends_by_parents;
-    use sheets::build::{func, strings, structure};
-    use sheets::{encode_hosts, encode_sheet, TypeEntry, DYN};
-
-    fn sheet(types: Vec<TypeEntry>) -> Sheet {
-        Sheet {
-            strings: strings(&[""]),
-            types,
-            ..Sheet::default()
-        }
-    }
-
-    /// Structs with these parents.
-    fn forest(parents: impl IntoIterator<Item = Option<u32>>) -> Sheet {
-        sheet(parents.into_iter().map(|p| structure(p, &[])).collect())
-    }
-
-    /// Roots 2, 5 and 9 with other types between them; children stand before and behind their parents.
-    fn mixed() -> Sheet {
-        sheet(vec![
-            structure(Some(3), &[]),
-            TypeEntry::Coroutine,
-            structure(None, &[]),
-            structure(Some(5), &[]),
-            TypeEntry::Array(DYN),
-            structure(None, &[]),
-            structure(Some(3), &[]),
-            func(&[], &[]),
-            structure(Some(2), &[]),
-            structure(None, &[]),
-            structure(Some(0), &[]),
-        ])
-    }
-
-    /// A chain of 256 and, from there on, further children of its last but one: the largest total there is.
-    fn deepest(structs: u32) -> Sheet {
-        forest((0..structs).map(|t| t.min(255).checked_sub(1)))
-    }
+    use crate::forests::{deepest, forest, mixed, sheet};
+    use sheets::build::structure;
+    use sheets::{encode_hosts, encode_sheet, TypeEntry};
 
     fn root_total(sheet: &Sheet) -> u32 {
         let sizes = family_sizes(sheet);

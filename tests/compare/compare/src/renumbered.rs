@@ -48,6 +48,30 @@ pub fn pair_difference(
     (first.catch_tables != second.catch_tables).then(|| "the catch tables".to_string())
 }
 
+/// Where the nearest family of two images is not the image of the nearest family, in words; kinds are to be the same.
+pub fn nearest_difference(
+    images: &[u32],
+    asked: &[u32],
+    [first, second]: [&[u32]; 2],
+    nearest: impl Fn(&[u32], u32, u32) -> [u32; 2],
+) -> Option<String> {
+    for &t in asked {
+        for &u in asked {
+            let moved = match nearest(first, t, u) {
+                [0, family] => [0, image(images, family)],
+                none => none,
+            };
+            let of_images = nearest(second, image(images, t), image(images, u));
+            if of_images != moved {
+                return Some(format!(
+                    "the nearest family of {t} and {u}: {of_images:?} and not {moved:?}"
+                ));
+            }
+        }
+    }
+    None
+}
+
 /// Types share a number exactly when their images do: each number goes with one number, both ways.
 fn same_partition(images: &[u32], first: &[u32], second: &[u32]) -> bool {
     let n = images.len();
@@ -68,7 +92,7 @@ fn same_partition(images: &[u32], first: &[u32], second: &[u32]) -> bool {
 #[cfg(test)]
 mod tests {
     use super::*;
-    use crate::{answer_plain, query};
+    use crate::{answer_plain, nearest_in, query};
     use generator::pair;
 
     /// Finds a renumbered pair that is accepted and has catch tables, types and two canonical numbers that differ.
@@ -124,6 +148,31 @@ mod tests {
             };
             assert!(differ(&second, &asked, &lies).contains("descends"));
         }
+    }
+
+    type Nearest<'n> = &'n dyn Fn(&[u32], u32, u32) -> [u32; 2];
+
+    #[test]
+    fn nearest_families_of_a_pair_are_compared() {
+        let (images, first, second) = tables();
+        let asked = asked_numbers(&mut Rng::new(1, 1), images.len(), usize::MAX);
+        let differ =
+            |nearest: Nearest| nearest_difference(&images, &asked, [&first, &second], nearest);
+        assert_eq!(differ(&nearest_in), None);
+        // A lie about any one number is told, of the kind and of the family.
+        for &liar in &asked {
+            for place in [0, 1] {
+                let lies = |table: &[u32], t, u| {
+                    let mut answer = nearest_in(table, t, u);
+                    answer[place] += u32::from(table == second && u == image(&images, liar));
+                    answer
+                };
+                assert!(differ(&lies).is_some(), "{liar}");
+            }
+        }
+        // The same number in both tables is no answer where they are renumbered.
+        let unmoved = |_: &[u32], t, u| nearest_in(&first, t, u);
+        assert!(differ(&unmoved).is_some());
     }
 
     #[test]

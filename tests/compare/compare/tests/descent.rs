@@ -1,11 +1,16 @@
-//! Descent and the sizes of families by spans, by the Rust's own test and by declared parents, on generated sheets.
+//! Descent, the sizes of families and the nearest ones by spans, by the Rust's own test and by declared parents, on generated
+//! sheets.
 
 use bvm_lang::{descends, table_words};
-use compare::{asked_numbers, descends_by_parents, family_sizes, load, query, size_in};
+use compare::{
+    asked_numbers, chain, descends_by_parents, family_sizes, load, nearest_in, nearest_numbers,
+    query, size_in, Ancestors,
+};
 use generator::{case, valid, Draft, Rng, Scale};
 use sheets::{decode_sheet, encode_hosts, encode_sheet, Sheet};
 
-/// Compares the sizes of all families, and the three tests for all pairs of numbers; false when the sheet is refused.
+/// Compares the sizes of all families, and for all pairs of numbers the three tests and the nearest family; false when the
+/// sheet is refused.
 fn agree(rng: &mut Rng, sheet: &Sheet, bytes: &[u8], hosts: &[u8]) -> bool {
     let Ok((program, host)) = load(bytes, hosts, u32::MAX, u32::MAX) else {
         return false;
@@ -16,7 +21,10 @@ fn agree(rng: &mut Rng, sheet: &Sheet, bytes: &[u8], hosts: &[u8]) -> bool {
     }
     let numbers = asked_numbers(rng, sheet.types.len(), 24);
     for &t in &numbers {
+        let above = Ancestors::of(sheet, t);
         for &a in &numbers {
+            let nearest = nearest_numbers(above.nearest(chain(sheet, a)));
+            assert_eq!(nearest_in(&table, t, a), nearest, "{t}, {a}: {sheet:?}");
             let declared = descends_by_parents(sheet, t, a);
             assert_eq!(
                 query(&table, t, a),

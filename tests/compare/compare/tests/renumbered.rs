@@ -1,6 +1,8 @@
-//! Renumbered pairs as demand 3 says.
+//! Renumbered pairs as demand 3 says, and their nearest families.
 
-use compare::{answer_plain, asked_numbers, pair_difference, query};
+use compare::{
+    answer_plain, asked_numbers, nearest_difference, nearest_in, pair_difference, query,
+};
 use generator::{pair, Pair, Rng};
 use sheets::{encode_sheet, renumber};
 
@@ -22,6 +24,8 @@ fn compare_pair(pair: &Pair, index: u64) -> (u32, u32) {
 fn compare_tables(pair: &Pair, a: &[u32], b: &[u32], index: u64) {
     let asked = asked_numbers(&mut Rng::new(7, index), pair.images.len(), 20);
     let found = pair_difference(&pair.images, &asked, [a, b], query);
+    assert_eq!(found, None, "pair {index}");
+    let found = nearest_difference(&pair.images, &asked, [a, b], nearest_in);
     assert_eq!(found, None, "pair {index}");
 }
 
