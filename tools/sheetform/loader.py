@@ -1,5 +1,5 @@
 """Runs the loader on a sheet and a host list, and says what the six numbers mean. The words are README.md's."""
-import subprocess, tempfile
+import signal, subprocess, tempfile
 from . import native
 from .files import Failed, say
 
@@ -57,14 +57,29 @@ class Loader:
     def __exit__(self, *_):
         self.folder.cleanup()
 
+    # what it prints, and its status; an interrupt waits until the child can be ended: left alone it would miss its host list, and say so
+    def run(self, sheet, *asked):
+        kept = signal.pthread_sigmask(signal.SIG_BLOCK, [signal.SIGINT])
+        try:
+            child = subprocess.Popen([self.program, *asked, '-', self.hosts], stdin=subprocess.PIPE, stdout=subprocess.PIPE)
+            with child:
+                try:
+                    signal.pthread_sigmask(signal.SIG_SETMASK, kept)
+                    return child.communicate(sheet)[0], child.returncode
+                except BaseException:
+                    child.kill()
+                    child.wait()
+                    raise
+        finally:
+            signal.pthread_sigmask(signal.SIG_SETMASK, kept)
+
     # the six numbers and, where the sheet is accepted, the words of what is asked for: --table, --families, --nearest T U or nothing
     def load(self, sheet, *asked):
-        done = subprocess.run([self.program, *asked, '-', self.hosts], input=sheet, stdout=subprocess.PIPE)
-        words = done.stdout.split()
-        if done.returncode not in (0, 1) or not all(map(bytes.isdigit, words)):
-            ended = f'{self.program} ended with status {done.returncode} and printed {done.stdout[:200]!r}'
-            raise Failed(f'no verdict: {ended}; {native.AGAIN}')
-        found = answer(self.program, done.returncode, list(map(int, words)), *asked)
+        printed, status = self.run(sheet, *asked)
+        words = printed.split()
+        if status not in (0, 1) or not all(map(bytes.isdigit, words)):
+            raise Failed(f'no verdict: {self.program} ended with status {status} and printed {printed[:200]!r}; {native.AGAIN}')
+        found = answer(self.program, status, list(map(int, words)), *asked)
         if self.rests_on:
             self.say(self.tool, self.rests_on)
             self.rests_on = None
