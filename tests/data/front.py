@@ -94,6 +94,12 @@ case('chain-256-below-absent-lowest-first', DEEP, types=lowest_first(256, 300), 
 case('chain-256-below-absent-topmost-first', PARENT, types=topmost_first(256, 300), **A)
 case('chain-256-below-a-coroutine-lowest-first', DEEP, types=lowest_first(256, 256) + [COROUTINE], **A)
 case('chain-256-below-a-coroutine-topmost-first', PARENT, types=topmost_first(256, 256) + [COROUTINE], **A)
+case('cycle-of-256', DEEP, types=lowest_first(256, 0), **A)
+case('cycle-of-300-lowest-first', DEEP, types=lowest_first(300, 0), **A)
+case('cycle-of-300-topmost-first', DEEP, types=topmost_first(300, 299), **A)
+case('below-a-cycle-of-300', DEEP, types=lowest_first(301, 1), **A)
+case('many-below-a-chain-of-255', HOLDS, types=topmost_first(255) + [struct(parent=254)] * 140, **A)
+case('one-below-a-chain-of-256', DEEP, types=topmost_first(256) + [struct(parent=255)], **A)
 case('two-chains-of-180', HOLDS, types=[struct(parent=t - 1 if t % 180 else None) for t in range(360)], **A)
 
 # ── rule 4: constants in order ──

@@ -11,6 +11,7 @@ use Rattle.lists.specs.Lists.{anyOf, concatMap}
 use Rattle.law_counting.specs.Counting.{count, tick-is, tick-not}
 use Rattle.sheet.specs.Module.{TypeDef}
 use Rattle.parents.specs.Forest.{Entry, other, root, sub, entryAt, parents, walk, chain}
+use Rattle.parents.specs.WalkLaws.{walk-stop, walk-up}
 use Rattle.spans.specs.Spans.{isRoot, Reaches, here, up}
 use Rattle.law_forest.specs.Entries.{isStructEntry, ends}
 
@@ -26,12 +27,12 @@ kind types t P o r s = go (entryAt types t) refl
     go (sub p) q = s p q
 
 pub chain-up : (types : List TypeDef) (f t p : ℕ) → entryAt types t ≡ sub p → chain types (suc f) t ≡ t ∷ chain types f p
-unfolding chain walk parents
-chain-up types f t p h = rw (h, append-nil)
+unfolding chain parents
+chain-up types f t p h = walk-up (λ x. parents (entryAt types x)) f t p (ap parents h)
 
 pub chain-stop : (types : List TypeDef) (f t : ℕ) → parents (entryAt types t) ≡ [] → chain types (suc f) t ≡ t ∷ []
-unfolding chain walk parents
-chain-stop types f t h = rw h
+unfolding chain
+chain-stop types f t h = walk-stop (λ x. parents (entryAt types x)) f t h
 
 pub ends-up : (types : List TypeDef) (f t p : ℕ) → entryAt types t ≡ sub p → ends types (suc f) t ≡ ends types f p
 unfolding ends chain walk parents isRoot

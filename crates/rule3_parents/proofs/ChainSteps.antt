@@ -1,18 +1,20 @@
--- A chain's length, from a type towards the root; whether a parent may be extended.
-use Prim.Native.Nat.{ℕ, zero, suc, _+_, _-_, _≤_, _<_, min}
-use mathlib.Core.Path.{_≡_, refl, sym, ap, _∙_}
-use mathlib.Core.List.{List, [], _∷_, append-nil}
+-- The parents' words; the loop along a chain by them; whether a parent may be extended.
+use Prim.Native.Nat.{ℕ, suc, _+_, _-_, _≤_, _<_}
+use mathlib.Core.Path.{_≡_, refl, sym, ap, fun-ext, _∙_}
+use mathlib.Core.List.{List}
 use mathlib.Core.Bool.{Bool, true, false}
 use mathlib.Core.Option.{Option, none, some}
 use native.Mathlib.Omega.{arith}
 use native.Mathlib.Numerals.{add-one}
 use lib.Dec.{leb}
-use lib.ListN.{length}
-use Rattle.lists.specs.Lists.{concatMap}
-use Rattle.sheet.specs.Module.{Struct, TypeDef, typeAt, structOf, isStruct}
-use Rattle.parents.specs.Forest.{Entry, other, root, sub, structEntry, entryOf, entry, entryAt, parents, walk, chain}
+use lib.ListN.{length, getD, length-map, List·getD-map, List·getD-eq-default}
+use borrow.Author.Tests.{le-leb, lt-leb}
+use Rattle.sheet.specs.Module.{Struct, TypeDef, coroutine, typeAt, structOf, isStruct}
+use Rattle.parents.specs.Forest.{other, root, sub, structEntry, entryOf, entry, entryAt, parents, walk, chain}
 use Rattle.parents.specs.Parents.{fieldWords, shortChain}
+use Rattle.parents.specs.WalkLaws.{walk-stop, walk-up}
 use Rattle.rule3_parents.specs.Child.{parentOf, parentWord, extends}
+use Rattle.rule3_parents.specs.ParentWords.{parentWords, parentsIn, chainIn}
 
 -- ── the declared parent ──
 
@@ -34,74 +36,113 @@ entry-sub d {p} k e = go (structOf d) k
     go none k = absurd (e (unfold parentOf in k))
     go (some s) k = unfold entryOf structEntry parentOf in let z : s .parent+ ≡ suc (p - 1) = omega arith in ap structEntry z
 
--- ── the chain ──
+-- ── the parents' words ──
 
-module _ (types : List TypeDef) where
-  abbrev up : ℕ → List ℕ
-  up x = parents (entryAt types x)
+-- the word of any number: that of its type
+pub word-parent : (types : List TypeDef) (x : ℕ) → getD (parentWords types) x 0 ≡ parentWord (typeAt types x)
+unfolding parentWords typeAt parentWord parentOf structOf
+word-parent types x = List·getD-map parentWord types x coroutine
 
-  pub chain-spent : (left t : ℕ) → left ≡ 0 → 0 ≡ length (chain types left t)
-  unfolding chain walk
-  chain-spent left t e = sym (ap (λ n. length (chain types n t)) e)
+pub words-length : (types : List TypeDef) → length (parentWords types) ≡ length types
+unfolding parentWords
+words-length types = length-map types parentWord
 
-  chain-none : (f t : ℕ) → up t ≡ [] → length (chain types (suc f) t) ≡ 1
-  unfolding chain walk
-  chain-none f t e = ap (λ l. length (t ∷ concatMap (walk up f) l)) e
+-- a word tells whether there is a parent, and which
+word-tells : (d : TypeDef) → parents (structEntry (parentWord d)) ≡ parents (entry d)
+unfolding parentWord entry
+word-tells d = go (structOf d)
+  where
+    go : (s : Option Struct) → parents (structEntry (parentOf s)) ≡ parents (entryOf s)
+    go none = unfold parentOf entryOf structEntry parents in refl
+    go (some s) = unfold parentOf entryOf in refl
 
-  chain-more : (f t p : ℕ) → up t ≡ p ∷ [] → length (chain types (suc f) t) ≡ suc (length (chain types f p))
-  unfolding chain walk
-  chain-more f t p e = ap (λ l. length (t ∷ concatMap (walk up f) l)) e ∙ ap (λ l. suc (length l)) (append-nil (walk up f p))
+-- the chain by the words is that by the declarations
+pub words-chain : (types : List TypeDef) (f t : ℕ) → chainIn (parentWords types) f t ≡ chain types f t
+unfolding chainIn chain parentsIn entryAt
+words-chain types f t =
+    ap (λ next. walk next f t) (fun-ext λ x.
+    ap (λ p. parents (structEntry p)) (word-parent types x) ∙ word-tells (typeAt types x))
 
-  pub chain-root : (left t : ℕ) {p : ℕ} → (left ≡ 0 → ⊥) → p ≡ parentWord (typeAt types t) → p ≡ 0 → 1 ≡ length (chain types left t)
-  unfolding entryAt parents
-  chain-root left t h k e =
-      let z : left ≡ suc (left - 1) = omega arith in
-      entry-none (typeAt types t) k e
-      (λ y. sym (chain-none (left - 1) t (ap parents y)) ∙ sym (ap (λ n. length (chain types n t)) z))
-      (λ y. sym (chain-none (left - 1) t (ap parents y)) ∙ sym (ap (λ n. length (chain types n t)) z))
+-- ── the loop along a chain ──
 
-  pub chain-up : (left t : ℕ) {p r : ℕ} → (left ≡ 0 → ⊥) → p ≡ parentWord (typeAt types t) → (p ≡ 0 → ⊥) → r ≡ length (chain types (left - 1) (p - 1)) → r + 1 ≡ length (chain types left t)
-  unfolding entryAt parents
-  chain-up left t {p} {r} h k e g =
-      let z : left ≡ suc (left - 1) = omega arith in
-      add-one r ∙ ap suc g ∙ sym (chain-more (left - 1) t (p - 1) (ap parents (entry-sub (typeAt types t) k e))) ∙ sym (ap (λ n. length (chain types n t)) z)
+module _ (ps : List ℕ) where
+  in-spent : (x : ℕ) → length (chainIn ps 0 x) ≡ 0
+  unfolding chainIn walk
+  in-spent x = refl
 
-  -- no longer than the limit
-  pub chain-most : (left t : ℕ) → length (chain types left t) ≤ left
-  chain-most zero t = omega (arith, chain-spent zero t refl)
-  chain-most (suc f) t = go (entryAt types t) refl (λ p. chain-most f p)
-    where
-      go : (x : Entry) → entryAt types t ≡ x → ((p : ℕ) → length (chain types f p) ≤ f) → length (chain types (suc f) t) ≤ suc f
-      go other e ih = omega (arith, chain-none f t (unfold parents in ap parents e))
-      go root e ih = omega (arith, chain-none f t (unfold parents in ap parents e))
-      go (sub p) e ih = omega (arith, chain-more f t p (unfold parents in ap parents e), ih p)
+  in-none : (f x : ℕ) → getD ps x 0 ≡ 0 → length (chainIn ps (suc f) x) ≡ 1
+  unfolding chainIn parentsIn structEntry parents
+  in-none f x e = ap length (walk-stop (parentsIn ps) f x (ap (λ p. parents (structEntry p)) e))
 
-  -- a chain that ended before a limit has that length, whatever the limit
-  pub chain-ended : (left t l : ℕ) → length (chain types left t) < left → length (chain types l t) ≡ min l (length (chain types left t))
-  chain-ended zero t l h = absurd (omega arith)
-  chain-ended (suc f) t l h = go (entryAt types t) refl (λ p g. chain-ended f p g)
-    where
-      alone : (l : ℕ) → up t ≡ [] → length (chain types l t) ≡ min l (length (chain types (suc f) t))
-      alone zero e = omega (arith, chain-spent zero t refl)
-      alone (suc g) e = omega (arith, chain-none f t e, chain-none g t e)
+  in-more : (f x p : ℕ) → getD ps x 0 ≡ suc p → length (chainIn ps (suc f) x) ≡ suc (length (chainIn ps f p))
+  unfolding chainIn parentsIn structEntry parents
+  in-more f x p e = ap length (walk-up (parentsIn ps) f x p (ap (λ q. parents (structEntry q)) e))
 
-      above : (p l : ℕ) → up t ≡ p ∷ [] → ((g : ℕ) → length (chain types f p) < f → length (chain types g p) ≡ min g (length (chain types f p))) →
-          length (chain types l t) ≡ min l (length (chain types (suc f) t))
-      above p zero e ih = omega (arith, chain-spent zero t refl)
-      above p (suc g) e ih = omega (arith, chain-more f t p e, chain-more g t p e, ih g (omega (arith, chain-more f t p e)))
+-- of the numbers from s - 1 up, `met` are met, and p - 1 is the next
+pub record Meets (ps : List ℕ) (left s p met : ℕ) : Type 0 where
+  pub number : 1 ≤ p
+  pub within : met ≤ left
+  pub rest : length (chainIn ps left (s - 1)) ≡ met + length (chainIn ps (left - met) (p - 1))
 
-      go : (x : Entry) → entryAt types t ≡ x → ((p g : ℕ) → length (chain types f p) < f → length (chain types g p) ≡ min g (length (chain types f p))) →
-          length (chain types l t) ≡ min l (length (chain types (suc f) t))
-      go other e ih = alone l (unfold parents in ap parents e)
-      go root e ih = alone l (unfold parents in ap parents e)
-      go (sub p) e ih = above p l (unfold parents in ap parents e) (λ g. ih p g)
+pub meets-start : (ps : List ℕ) (left t : ℕ) → Meets ps left (t + 1) (t + 1) 0
+meets-start ps left t =
+    let n : left ≡ left - 0 = omega arith in
+    record { number = omega arith; within = omega arith; rest = omega (arith, ap (λ f. length (chainIn ps f (t + 1 - 1))) n) }
 
-  pub chain-small : (left p : ℕ) {r : ℕ} → (left ≡ 0 → ⊥) → r ≡ length (chain types (left - 1) p) → r + 1 ≤ left
-  chain-small left p h g = omega (arith, chain-most (left - 1) p)
+module _ (ps : List ℕ) (left t p met : ℕ) (c : Meets ps left (t + 1) p met) where
+  pub meets-number : 1 ≤ p
+  meets-number = c .number
 
-  pub chain-short : (most t : ℕ) {r : ℕ} → r ≡ length (chain types (most + 1) t) → leb r most ≡ shortChain most types t
+  from-t : length (chainIn ps left t) ≡ met + length (chainIn ps (left - met) (p - 1))
+  from-t = let e : t ≡ t + 1 - 1 = omega arith in ap (λ x. length (chainIn ps left x)) e ∙ c .rest
+
+  pub meets-end : left ≤ met → met ≡ length (chainIn ps left t)
+  meets-end h =
+      let e : left - met ≡ 0 = omega (arith, c .within) in
+      omega (arith, c .within, from-t, ap (λ f. length (chainIn ps f (p - 1))) e, in-spent ps (p - 1))
+
+  module _ (h : met < left) where
+    one-left : left - met ≡ suc (left - (met + 1))
+    one-left = omega arith
+
+    -- the last number: it has no parent
+    last : getD ps (p - 1) 0 ≡ 0 → met + 1 ≡ length (chainIn ps left t)
+    last e = omega (arith, from-t, ap (λ f. length (chainIn ps f (p - 1))) one-left, in-none ps (left - (met + 1)) (p - 1) e)
+
+    pub meets-absent : length ps < p → met + 1 ≡ length (chainIn ps left t)
+    meets-absent k = let h : length ps ≤ p - 1 = omega arith in last (List·getD-eq-default ps 0 h)
+
+    module _ {q : ℕ} (g : q ≡ getD ps (p - 1) 0) where
+      pub meets-root : q ≡ 0 → met + 1 ≡ length (chainIn ps left t)
+      meets-root e = last (sym g ∙ e)
+
+      pub meets-next : (q ≡ 0 → ⊥) → Meets ps left (t + 1) q (met + 1)
+      meets-next e =
+          let z : getD ps (p - 1) 0 ≡ suc (q - 1) = omega (arith, g) in
+          let m = in-more ps (left - (met + 1)) (p - 1) (q - 1) z in
+          record {
+            number = omega arith;
+            within = omega arith;
+            rest = omega (arith, c .rest, ap (λ f. length (chainIn ps f (p - 1))) one-left, m);
+          }
+
+-- ── the limit ──
+
+module _ (ps : List ℕ) (types : List TypeDef) (l : ps ≡ parentWords types) (most t : ℕ) {r : ℕ}
+    (g : r ≡ length (chainIn ps (most + 1) t)) where
+  chain-met : r ≡ length (chain types (suc most) t)
+  chain-met =
+      g ∙ ap (λ w. length (chainIn w (most + 1) t)) l
+      ∙ ap length (words-chain types (most + 1) t)
+      ∙ ap (λ f. length (chain types f t)) (add-one most)
+
+  pub chain-short : r ≤ most → shortChain most types t ≡ true
   unfolding shortChain
-  chain-short most t g = ap (λ n. leb n most) (g ∙ ap (λ k. length (chain types k t)) (add-one most))
+  chain-short h = ap (λ n. leb n most) (sym chain-met) ∙ le-leb r most h
+
+  pub chain-deep : most < r → shortChain most types t ≡ false
+  unfolding shortChain
+  chain-deep h = ap (λ n. leb n most) (sym chain-met) ∙ lt-leb r most h
 
 -- ── a parent that may be extended ──
 

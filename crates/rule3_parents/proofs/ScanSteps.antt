@@ -22,14 +22,14 @@ use Rattle.error.specs.VerdictLaws.{placed-faults}
 use Rattle.sheet.specs.Module.{TypeDef, coroutine, Module, typeAt, structOf, isStruct}
 use Rattle.open_layout.specs.Opened.{moduleIn}
 use Rattle.open_sheet.specs.declared.Opened.{Opened}
-use Rattle.open_sheet.specs.Ready.{Ready, Kept}
-use Rattle.open_sheet.specs.ReadyLaws.{types-in, count-types, kept-same, kept-then}
+use Rattle.open_sheet.specs.Ready.{Ready}
+use Rattle.open_sheet.specs.ReadyLaws.{types-in, count-types}
 use Rattle.law_judging.specs.Clearing.{Clears, clears-start, clears-next, clears-holds, clears-stop}
 use Rattle.parents.specs.Forest.{other, sub, entry}
 use Rattle.parents.specs.Parents.{fieldWords, fieldsFirst, shortChain, childFaults, parentFaults, parentsFaults}
 use Rattle.rule3_parents.specs.Child.{parentWord, extends, scanFaults}
-use Rattle.rule3_parents.specs.Lengths.{Remembers}
-use Rattle.rule3_parents.proofs.ChainSteps.{entry-none, entry-sub}
+use Rattle.rule3_parents.specs.ParentWords.{parentWords, chainIn}
+use Rattle.rule3_parents.proofs.ChainSteps.{entry-none, entry-sub, word-parent, words-length, chain-short, chain-deep}
 
 -- ── what is broken in one type ──
 
@@ -144,76 +144,65 @@ module _ (most : ℕ) (types : List TypeDef) where
       first : fieldsFirst types (p - 1) t ≡ true
       first = x .same ∙ front-end (fieldWords (structOf (typeAt types (p - 1)))) (fieldWords (structOf (typeAt types t))) i (omega (arith, x .count))
 
-      pub scan-next : {r : Bool} → r ≡ shortChain most types t → not r ≡ false → Scans most types found (t + 1)
-      scan-next {r} k e =
-          passed found t (x .scans) (x .known)
-          (child-faults most types t (typeAt types t) (p - 1) (x .child) ∙ all-hold most types t (p - 1) (x .parent) first (sym k ∙ not-false r e))
+      module _ (ps : List ℕ) (l : ps ≡ parentWords types) {r : ℕ} (k : r ≡ length (chainIn ps (most + 1) t)) where
+        pub scan-next : r ≤ most → Scans most types found (t + 1)
+        scan-next e =
+            passed found t (x .scans) (x .known)
+            (child-faults most types t (typeAt types t) (p - 1) (x .child)
+            ∙ all-hold most types t (p - 1) (x .parent) first (chain-short ps types l most t k e))
 
-      pub deep-stop : {r : Bool} → r ≡ shortChain most types t → not r ≡ true → Broken InheritanceTooDeep ≡ verdictOf (scanFaults most types)
-      deep-stop {r} k e =
-          stopped found t (x .scans) (x .known)
-          (too-deep most types t (p - 1) (x .parent) first (sym k ∙ not-true r e) ∙ sym (ap verdictOf (child-faults most types t (typeAt types t) (p - 1) (x .child))))
+        pub deep-stop : most < r → Broken InheritanceTooDeep ≡ verdictOf (scanFaults most types)
+        deep-stop e =
+            stopped found t (x .scans) (x .known)
+            (too-deep most types t (p - 1) (x .parent) first (chain-deep ps types l most t k e)
+            ∙ sym (ap verdictOf (child-faults most types t (typeAt types t) (p - 1) (x .child))))
 
--- ── over a sheet that is ready ──
+-- ── over a sheet that is ready, and its parents' words ──
 
--- w is w₀ but for the free words, which hold memoised lengths; nothing was found before type t
-pub record Passes (most : ℕ) (ws w₀ : List ℕ) (o : Opened) (w : List ℕ) (found : Verdict) (t : ℕ) : Type 0 where
-  pub remembers : Remembers ws w o
-  pub kept : Kept o w₀ w
-  pub scans : Scans most (moduleIn ws .types) found t
-
-pub pass-start : (most : ℕ) (ws w : List ℕ) (o : Opened) → Remembers ws w o → Passes most ws w o w Holds 0
-pass-start most ws w o x = record { remembers = x; kept = kept-same o w; scans = scan-start most (moduleIn ws .types) }
-
-module _ (most : ℕ) (ws w₀ : List ℕ) (o : Opened) (w : List ℕ) (found : Verdict) (t : ℕ) (x : Passes most ws w₀ o w found t) where
+module _ (most : ℕ) (ws w : List ℕ) (o : Opened) (y : Ready ws w o) where
   abbrev types : List TypeDef
   types = moduleIn ws .types
 
-  pub pass-length : length w ≡ length w₀
-  unfolding Kept
-  pass-length = x .kept .len
+  -- each type has a word
+  pub laid-in : (ps : List ℕ) → ps ≡ parentWords types → (t : ℕ) → t < o .counts .types → t < length ps
+  laid-in ps l t h = omega (arith, ap length l, words-length types, count-types ws o (y .opens))
 
-  pub pass-ready : Ready ws w o
-  pass-ready = x .remembers .ready
+  module _ (found : Verdict) (t : ℕ) (x : Scans most types found t) where
+    pub scan-end : o .counts .types ≤ t → found ≡ verdictOf (scanFaults most types)
+    unfolding scanFaults
+    scan-end h = x .holds ∙ clears-holds (faultsOf most types) types t (x .clear) (omega (arith, count-types ws o (y .opens)))
 
-  pub pass-end : o .counts .types ≤ t → found ≡ verdictOf (scanFaults most types)
-  unfolding scanFaults
-  pass-end h = x .scans .holds ∙ clears-holds (faultsOf most types) types t (x .scans .clear) (omega (arith, count-types ws o (pass-ready .opens)))
+    module _ (h : t < o .counts .types) (ps : List ℕ) (l : ps ≡ parentWords types) {p : ℕ} (g : p ≡ getD ps t 0) where
+      parent-laid : p ≡ parentWord (typeAt types t)
+      parent-laid = g ∙ ap (λ ps. getD ps t 0) l ∙ word-parent types t
 
-  -- the chain was short, and its lengths are noted
-  pub pass-next : {g : Verdict} {p n i : ℕ} {r : Bool} {v : List ℕ} → Compares most types g t p n i → n ≤ i → r ≡ shortChain most types t → not r ≡ false → Remembers ws v o → Kept o w v →
-      Passes most ws w₀ o v g (t + 1)
-  pass-next {g} {p} {n} {i} {r} {v} y h k e z f = record { remembers = z; kept = kept-then o w₀ w v (x .kept) f; scans = scan-next most types g t p n i y h k e }
+      pub scan-skip : p ≡ 0 → Scans most types found (t + 1)
+      scan-skip e = passed most types found t x (types-in ws w o y t h) (no-faults most types t (typeAt types t) parent-laid e)
 
-  module _ (h : t < o .counts .types) {p : ℕ} (k : p ≡ parentWord (typeAt types t)) where
-    pub pass-skip : p ≡ 0 → Passes most ws w₀ o w found (t + 1)
-    pass-skip e = record {
-      remembers = x .remembers;
-      kept = x .kept;
-      scans = passed most types found t (x .scans) (types-in ws w o pass-ready t h) (no-faults most types t (typeAt types t) k e);
-    }
+      module _ (e : p ≡ 0 → ⊥) {r : Bool} (f : r ≡ extends types (p - 1) t) where
+        pub unfit-stop : not r ≡ true → Broken BadParent ≡ verdictOf (scanFaults most types)
+        unfit-stop g =
+            stopped most types found t x (types-in ws w o y t h)
+            (unfit most types t (p - 1) (sym f ∙ not-true r g)
+            ∙ sym (ap verdictOf (child-faults most types t (typeAt types t) (p - 1) (entry-sub (typeAt types t) parent-laid e))))
 
-    module _ (e : p ≡ 0 → ⊥) {r : Bool} (f : r ≡ extends types (p - 1) t) where
-      pub unfit-stop : not r ≡ true → Broken BadParent ≡ verdictOf (scanFaults most types)
-      unfit-stop g =
-          stopped most types found t (x .scans) (types-in ws w o pass-ready t h)
-          (unfit most types t (p - 1) (sym f ∙ not-true r g) ∙ sym (ap verdictOf (child-faults most types t (typeAt types t) (p - 1) (entry-sub (typeAt types t) k e))))
-
-      pub compare-start : {n : ℕ} → not r ≡ false → n ≡ length (fieldWords (structOf (typeAt types (p - 1)))) → Compares most types found t p n 0
-      unfolding extends fieldsFirst
-      compare-start {n} g c =
-          let b = sym f ∙ not-false r g in
-          let u = fieldWords (structOf (typeAt types (p - 1))) in
-          let v = fieldWords (structOf (typeAt types t)) in
-          record {
-            scans = x .scans;
-            known = types-in ws w o pass-ready t h;
-            child = entry-sub (typeAt types t) k e;
-            parent = and-first (isStruct (typeAt types (p - 1))) (leb (length u) (length v)) b;
-            count = c;
-            room = omega (arith, leb-true (length u) (length v) (and-second (isStruct (typeAt types (p - 1))) (leb (length u) (length v)) b));
-            same = refl;
-          }
+        pub compare-start : {n : ℕ} → not r ≡ false → n ≡ length (fieldWords (structOf (typeAt types (p - 1)))) →
+            Compares most types found t p n 0
+        unfolding extends fieldsFirst
+        compare-start {n} g c =
+            let b = sym f ∙ not-false r g in
+            let u = fieldWords (structOf (typeAt types (p - 1))) in
+            let v = fieldWords (structOf (typeAt types t)) in
+            let s = isStruct (typeAt types (p - 1)) in
+            record {
+              scans = x;
+              known = types-in ws w o y t h;
+              child = entry-sub (typeAt types t) parent-laid e;
+              parent = and-first s (leb (length u) (length v)) b;
+              count = c;
+              room = omega (arith, leb-true (length u) (length v) (and-second s (leb (length u) (length v)) b));
+              same = refl;
+            }
 
 -- ── the group ──
 

@@ -1,15 +1,14 @@
 // Rule 3 in code: parents, per type.
 ghost use mathlib.Core.Path.{_≡_};
-ghost use Prim.Native.Nat.{_+_, _*_, _≤_, _<_, min};
+ghost use Prim.Native.Nat.{_<_};
 ghost use lib.ListN.{length, getD};
 ghost use Rattle.error.specs.Verdict.{verdictOf, judgedOf};
 ghost use Rattle.sheet.specs.Module.{typeAt, structOf, isStruct};
 ghost use Rattle.sheet.specs.Encode.{encodeType};
 ghost use Rattle.open_sheet.specs.Ready.{Ready, Kept, sheetWords, moduleOf};
-ghost use Rattle.parents.specs.Forest.{chain};
-ghost use Rattle.parents.specs.Parents.{fieldWords, shortChain, parentsFaults};
+ghost use Rattle.parents.specs.Parents.{fieldWords, parentsFaults};
 ghost use Rattle.rule3_parents.specs.Child.{parentWord, extends, scanFaults};
-ghost use Rattle.rule3_parents.specs.Lengths.{lengthAt, noted, Remembers};
+ghost use Rattle.rule3_parents.specs.ParentWords.{parentWords, laidWords, chainIn};
 use blocks::word;
 use error::Judged;
 use error::LoadErrorKind;
@@ -18,7 +17,7 @@ use error::Verdict;
 use error::in_module;
 use open_sheet::Opened;
 use open_sheet::type_at;
-use region::fill;
+use region::at;
 
 // Word i of type t.
 fn type_word(sheet: &[u8], work: &[u32], o: Opened, t: TypeId, i: usize) -> u32
@@ -71,64 +70,37 @@ fn field_word(sheet: &[u8], work: &[u32], o: Opened, t: TypeId, i: usize) -> u32
     type_word(sheet, work, o, t, 4 + i)
 }
 
-// The length of t's whole chain where it is known, else 0.
-fn known_length(work: &[u32], o: Opened, t: TypeId) -> u32
-    requires { ⌜ 5 * o .layout .words + o .counts .types ≤ length (now work) ⌝ }
-    ensures { λ r. ⌜ r ≡ lengthAt o (now (work .entry)) (t .0) ⌝ }
-{
-    if t.0 < o.counts.types {
-        return work[5 * o.layout.words + t.0 as usize];
-    }
-    0
-}
-
-// Memoise a length below the limit: that chain has ended.
-fn note_length(work: &mut [u32], o: Opened, t: TypeId, n: u32, left: u32)
-    requires { ⌜ 5 * o .layout .words + t .0 < length (now work) ⌝ }
-    ensures { λ r. ⌜ now (work .exit) ≡ noted o (now (work .entry)) (t .0) n left ⌝ }
-{
-    if n < left {
-        work[5 * o.layout.words + t.0 as usize] = n;
-    }
-}
-
-fn shorter(a: u32, b: u32) -> u32
-    ensures { λ r. ⌜ r ≡ min a b ⌝ }
-{
-    if a < b { a } else { b }
-}
-
-// The numbers met from t up through declared parents, at most `left`; a chain that was met before is not walked again.
-fn chain_length(sheet: &[u8], work: &mut [u32], o: Opened, t: TypeId, left: u32) -> u32
-    requires { ⌜ Remembers (sheetWords (now sheet) o) (now work) o ⌝ }
-    ensures { λ r. ⌜ r ≡ length (chain (moduleOf (now (sheet .entry)) o .types) left (t .0)) ⌝ }
-    ensures { λ r. ⌜ Remembers (sheetWords (now (sheet .entry)) o) (now (work .exit)) o ⌝ }
+// The parents' words of all types, laid side by side in the free words: to follow a chain takes one read a number.
+fn lay_parents(sheet: &[u8], work: &mut [u32], o: Opened)
+    requires { ⌜ Ready (sheetWords (now sheet) o) (now work) o ⌝ }
+    ensures { λ r. ⌜ laidWords o (now (work .exit)) ≡ parentWords (moduleOf (now (sheet .entry)) o .types) ⌝ }
     ensures { λ r. ⌜ Kept o (now (work .entry)) (now (work .exit)) ⌝ }
 {
-    if left == 0 {
-        return 0;
+    let mut t = 0;
+    while t < o.counts.types {
+        let p = parent_of(sheet, work, o, TypeId(t));
+        work[5 * o.layout.words + t as usize] = p;
+        t += 1;
     }
-    let known = known_length(work, o, t);
-    if known != 0 {
-        return shorter(left, known);
-    }
-    let p = parent_of(sheet, work, o, t);
-    if p == 0 {
-        return 1;
-    }
-    let n = chain_length(sheet, work, o, TypeId(p - 1), left - 1) + 1;
-    note_length(work, o, t, n, left);
-    n
 }
 
-fn is_chain_short(sheet: &[u8], work: &mut [u32], o: Opened, t: TypeId, most: u32) -> bool
-    requires { ⌜ Remembers (sheetWords (now sheet) o) (now work) o ⌝ }
-    requires { ⌜ most < 4294967295 ⌝ }
-    ensures { λ r. ⌜ r ≡ shortChain most (moduleOf (now (sheet .entry)) o .types) (t .0) ⌝ }
-    ensures { λ r. ⌜ Remembers (sheetWords (now (sheet .entry)) o) (now (work .exit)) o ⌝ }
-    ensures { λ r. ⌜ Kept o (now (work .entry)) (now (work .exit)) ⌝ }
+// How many numbers are met from t up, at most `left`: one a turn, in one frame. p is a number + 1, as the parents' words are.
+fn chain_length(parents: &[u32], t: TypeId, left: u32) -> u32
+    ensures { λ r. ⌜ r ≡ length (chainIn (now (parents .entry)) left (t .0)) ⌝ }
 {
-    chain_length(sheet, work, o, t, most + 1) <= most
+    let mut p = t.0 as usize + 1;
+    let mut met = 0;
+    while met < left {
+        met += 1;
+        if parents.len() < p {
+            return met;
+        }
+        p = at(parents, p - 1);
+        if p == 0 {
+            return met;
+        }
+    }
+    met
 }
 
 // The parent is a struct with no more fields than the child.
@@ -143,16 +115,16 @@ fn may_extend(sheet: &[u8], work: &[u32], o: Opened, child: TypeId, parent: Type
 }
 
 // Type by type: the parent is fit, its fields are the first of the child's, the chain is short.
-fn scan_parents(sheet: &[u8], work: &mut [u32], o: Opened, most: u32) -> Verdict
-    requires { ⌜ Remembers (sheetWords (now sheet) o) (now work) o ⌝ }
+fn scan_parents(sheet: &[u8], work: &[u32], parents: &[u32], o: Opened, most: u32) -> Verdict
+    requires { ⌜ Ready (sheetWords (now sheet) o) (now work) o ⌝ }
+    requires { ⌜ now parents ≡ parentWords (moduleOf (now sheet) o .types) ⌝ }
     requires { ⌜ most < 4294967295 ⌝ }
     ensures { λ r. ⌜ r ≡ verdictOf (scanFaults most (moduleOf (now (sheet .entry)) o .types)) ⌝ }
-    ensures { λ r. ⌜ Kept o (now (work .entry)) (now (work .exit)) ⌝ }
 {
     let mut found = Verdict::Holds;
     let mut t = 0;
     'types: while t < o.counts.types {
-        let p = parent_of(sheet, work, o, TypeId(t));
+        let p = parents[t as usize];
         if p == 0 {
             t += 1;
             continue 'types;
@@ -172,7 +144,7 @@ fn scan_parents(sheet: &[u8], work: &mut [u32], o: Opened, most: u32) -> Verdict
             }
             i += 1;
         }
-        if !is_chain_short(sheet, work, o, TypeId(t), most) {
+        if most < chain_length(parents, TypeId(t), most + 1) {
             found = Verdict::Broken(LoadErrorKind::InheritanceTooDeep);
             break 'types;
         }
@@ -181,13 +153,16 @@ fn scan_parents(sheet: &[u8], work: &mut [u32], o: Opened, most: u32) -> Verdict
     found
 }
 
-// Rule 3: 16, then 17, at the first type that breaks it; no length is known before.
+// Rule 3: 16, then 17, at the first type that breaks it.
 pub fn check_parents(sheet: &[u8], work: &mut [u32], o: Opened, most: u32) -> Judged
     requires { ⌜ Ready (sheetWords (now sheet) o) (now work) o ⌝ }
     requires { ⌜ most < 4294967295 ⌝ }
     ensures { λ r. ⌜ r ≡ judgedOf (parentsFaults most (moduleOf (now (sheet .entry)) o)) ⌝ }
     ensures { λ r. ⌜ Kept o (now (work .entry)) (now (work .exit)) ⌝ }
 {
-    fill(work, 5 * o.layout.words, o.counts.types as usize, 0);
-    in_module(scan_parents(sheet, work, o, most))
+    lay_parents(sheet, work, o);
+    let from = 5 * o.layout.words;
+    let end = from + o.counts.types as usize;
+    let shared = &work[..];
+    in_module(scan_parents(sheet, shared, &shared[from..end], o, most))
 }

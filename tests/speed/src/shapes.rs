@@ -45,6 +45,11 @@ pub const SHAPES: &[Shape] = &[
         make: chains,
     },
     Shape {
+        name: "longest chains",
+        most: 104_036,
+        make: longest_chains,
+    },
+    Shape {
         name: "handlers",
         most: 60_000,
         make: handlers,
@@ -211,19 +216,27 @@ fn long_funcs(n: usize) -> (Sheet, Vec<HostEntry>) {
     )
 }
 
-/// n structs on chains of 256.
-fn chains(n: usize) -> (Sheet, Vec<HostEntry>) {
-    let types = (0..n as u32)
-        .map(|k| structure((k % 256 != 0).then(|| k - 1), &[]))
-        .collect();
+/// Structs without members, by their parents. The name is empty, so that 104,036 of them fill a sheet.
+fn structs(parents: impl Iterator<Item = Option<u32>>) -> (Sheet, Vec<HostEntry>) {
+    let types = parents.map(|p| structure(p, &[])).collect();
     (
         Sheet {
-            strings: vec![b"s".to_vec()],
+            strings: vec![Vec::new()],
             types,
             ..Sheet::default()
         },
         Vec::new(),
     )
+}
+
+/// n structs on chains of 256.
+fn chains(n: usize) -> (Sheet, Vec<HostEntry>) {
+    structs((0..n as u32).map(|k| (k % 256 != 0).then(|| k - 1)))
+}
+
+/// 255 structs on a chain, and all others below its end.
+fn longest_chains(n: usize) -> (Sheet, Vec<HostEntry>) {
+    structs((0..n as u32).map(|k| k.checked_sub(1).map(|last| last.min(254))))
 }
 
 /// n handlers, each over half of n instructions.

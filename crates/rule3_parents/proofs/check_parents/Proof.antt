@@ -1,23 +1,44 @@
 -- `rule3_parents::check_parents` meets its contract.
 use borrow.Author.Needs.{needs}
 use native.Mathlib.Omega.{arith}
-use Rattle.open_sheet.specs.ReadyLaws.{kept-then}
-use Rattle.rule3_parents.proofs.LengthSteps.{free-room, fill-kept, fill-remembers}
+use Rattle.open_sheet.specs.ReadyLaws.{ready-kept}
+use Rattle.rule3_parents.proofs.LaidSteps.{free-room, laid-lent}
 use Rattle.rule3_parents.proofs.ScanSteps.{parents-judged}
 use Rattle.rule3_parents.proofs.check_parents.Statement.{statement}
 use Rattle.rule3_parents.proofs.check_parents.Tie as tie
 
-mul-fill : tie.Need-mul-fill
-mul-fill c = search needs
+lay-parents-requires : tie.Need-lay-parents-requires
+lay-parents-requires c κs = search needs
 
-cast-fill : tie.Need-cast-fill
-cast-fill c = search needs
+mul-from : tie.Need-mul-from
+mul-from c = search needs
 
-fill-requires : tie.Need-fill-requires
-fill-requires c κs = (free-room _ _ _ (c .before .before .before .before .before .pre .0), omega arith)
+cast-end : tie.Need-cast-end
+cast-end c = search needs
+
+add-end : tie.Need-add-end
+add-end c = search needs
+
+mul-scan-parents : tie.Need-mul-scan-parents
+mul-scan-parents c = search needs
+
+sub-scan-parents : tie.Need-sub-scan-parents
+sub-scan-parents c = search needs
+
+part-scan-parents-start : tie.Need-part-scan-parents-start
+part-scan-parents-start c = search needs
+
+part-scan-parents-end : tie.Need-part-scan-parents-end
+part-scan-parents-end c =
+    let laid = c .before .before .before .before .before in
+    let start = laid .before .before .before .before in
+    omega (arith, free-room _ _ _ (ready-kept _ _ _ (start .pre .0) _ (laid .lay-parents .ensures .1)))
 
 scan-parents-requires : tie.Need-scan-parents-requires
-scan-parents-requires c κs = (fill-remembers _ _ _ _ (c .before .before .before .before .before .before .before .before .before .pre .0) (c .before .before .before .fill .ensures .0) (c .before .before .before .fill .ensures .1), c .before .before .before .before .before .before .before .before .before .pre .1)
+scan-parents-requires c κs =
+    let laid = c .before .before .before .before .before .before in
+    let start = laid .before .before .before .before in
+    (ready-kept _ _ _ (start .pre .0) _ (laid .lay-parents .ensures .1), (laid-lent _ _ _ (laid .lay-parents .ensures .0), start .pre .1))
 
 in-module-requires : tie.Need-in-module-requires
 in-module-requires c κs = search needs
@@ -26,15 +47,23 @@ same-length : tie.Need-same-length
 same-length c = search needs
 
 returns : tie.Need-returns
-returns c = (parents-judged _ _ (c .before .before .before .scan-parents .ensures .0) (c .in-module .ensures), kept-then _ _ _ _ (fill-kept _ _ _ _ (c .before .before .before .before .before .before .before .before .before .before .before .before .before .pre .0) (c .before .before .before .before .before .before .before .fill .ensures .0)) (c .before .before .before .scan-parents .ensures .1))
+returns c =
+    let scanned = c .before in
+    let laid = scanned .before .before .before .before .before .before .before in
+    (parents-judged _ _ (scanned .scan-parents .ensures) (c .in-module .ensures), laid .lay-parents .ensures .1)
 
 pub check-parents-spec : {M : Type 1} → statement M
 check-parents-spec =
     tie.close
     (tie.spec
-    mul-fill
-    cast-fill
-    fill-requires
+    lay-parents-requires
+    mul-from
+    cast-end
+    add-end
+    mul-scan-parents
+    sub-scan-parents
+    part-scan-parents-start
+    part-scan-parents-end
     scan-parents-requires
     in-module-requires
     same-length

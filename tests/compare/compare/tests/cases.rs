@@ -73,7 +73,7 @@ fn borders_are_met_on_both_sides() {
             "types equal through references",
         ];
         let refused = [
-            "chain under no struct",
+            "chain without a root",
             "both orders of a cycle",
             "record before code",
         ];

@@ -8,7 +8,7 @@ use crate::{Draft, Rng};
 
 pub const BORDERS: &[Border] = &[
     ("chain of about 256", chain),
-    ("chain under no struct", chain_under_none),
+    ("chain without a root", chain_without_root),
     ("both orders of a cycle", cycle_of_two),
     ("constants of depth about 64", depth),
     ("types equal through references", equal_through_references),
@@ -47,17 +47,18 @@ fn chain(rng: &mut Rng) -> Draft {
     let length = rng.within(254, 258) as u32;
     let link = |k: u32| structure(k.checked_sub(1), &[]);
     let mut types: Vec<_> = (0..length).map(link).collect();
-    // Children off the chain, at its middle and at its end.
-    for _ in 0..rng.within(0, 2) {
-        types.push(structure(Some(rng.pick(&[length / 2, length - 2])), &[]));
+    // Children off the chain, at its middle, beside its end and below it.
+    let parent = rng.pick(&[length / 2, length - 2, length - 1]);
+    for _ in 0..rng.pick(&[0, 1, 2, 40]) {
+        types.push(structure(Some(parent), &[]));
     }
     reorder(rng, draft(types))
 }
 
-/// The topmost of a chain has a parent that is absent or no struct.
-fn chain_under_none(rng: &mut Rng) -> Draft {
-    let length = rng.within(255, 256) as u32;
-    let top = rng.pick(&[0, 9999]);
+/// The topmost of a chain has a parent that is no struct, that is absent, or that is the lowest.
+fn chain_without_root(rng: &mut Rng) -> Draft {
+    let length = rng.pick(&[255, 256, 300]);
+    let top = rng.pick(&[0, 9999, length]);
     let mut types = vec![TypeEntry::Coroutine, structure(Some(top), &[])];
     types.extend((1..length).map(|k| structure(Some(k), &[])));
     reorder(rng, draft(types))
