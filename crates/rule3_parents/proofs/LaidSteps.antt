@@ -1,6 +1,6 @@
 -- The parents' words of all types, laid side by side in the free words.
 use Prim.Native.Nat.{ℕ, _+_, _*_, _-_, _≤_, _<_}
-use mathlib.Core.Path.{_≡_, refl, sym, ap, _∙_}
+use mathlib.Core.Path.{_≡_, sym, ap, _∙_}
 use mathlib.Core.List.{List}
 use native.Mathlib.Omega.{arith}
 use lib.ListN.{length, set, take, drop}
@@ -18,6 +18,11 @@ use Rattle.rule3_parents.proofs.ChainSteps.{word-parent, words-length}
 -- each type has a free word
 pub free-room : (ws w : List ℕ) (o : Opened) → Ready ws w o → 5 * o .layout .words + o .counts .types ≤ length w
 free-room ws w o x = omega (arith, x .room, types-inside ws w o x, count-types ws o (x .opens))
+
+-- and each type one of the parents' words
+pub laid-in : (ws w : List ℕ) (o : Opened) → Ready ws w o → (ps : List ℕ) → ps ≡ parentWords (moduleIn ws .types) →
+    (t : ℕ) → t < o .counts .types → t < length ps
+laid-in ws w o x ps l t h = omega (arith, ap length l, words-length (moduleIn ws .types), count-types ws o (x .opens))
 
 -- v is w but for the types' free words; those before t are laid
 pub record Laying (ws w : List ℕ) (o : Opened) (v : List ℕ) (t : ℕ) : Type 0 where

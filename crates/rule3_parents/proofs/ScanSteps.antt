@@ -29,7 +29,7 @@ use Rattle.parents.specs.Forest.{other, sub, entry}
 use Rattle.parents.specs.Parents.{fieldWords, fieldsFirst, shortChain, childFaults, parentFaults, parentsFaults}
 use Rattle.rule3_parents.specs.Child.{parentWord, extends, scanFaults}
 use Rattle.rule3_parents.specs.ParentWords.{parentWords, chainIn}
-use Rattle.rule3_parents.proofs.ChainSteps.{entry-none, entry-sub, word-parent, words-length, chain-short, chain-deep}
+use Rattle.rule3_parents.proofs.ChainSteps.{entry-none, entry-sub, word-parent, chain-short, chain-deep}
 
 -- ── what is broken in one type ──
 
@@ -162,10 +162,6 @@ module _ (most : ℕ) (types : List TypeDef) where
 module _ (most : ℕ) (ws w : List ℕ) (o : Opened) (y : Ready ws w o) where
   abbrev types : List TypeDef
   types = moduleIn ws .types
-
-  -- each type has a word
-  pub laid-in : (ps : List ℕ) → ps ≡ parentWords types → (t : ℕ) → t < o .counts .types → t < length ps
-  laid-in ps l t h = omega (arith, ap length l, words-length types, count-types ws o (y .opens))
 
   module _ (found : Verdict) (t : ℕ) (x : Scans most types found t) where
     pub scan-end : o .counts .types ≤ t → found ≡ verdictOf (scanFaults most types)

@@ -35,10 +35,7 @@ part-scan-parents-end c =
     omega (arith, free-room _ _ _ (ready-kept _ _ _ (start .pre .0) _ (laid .lay-parents .ensures .1)))
 
 scan-parents-requires : tie.Need-scan-parents-requires
-scan-parents-requires c κs =
-    let laid = c .before .before .before .before .before .before in
-    let start = laid .before .before .before .before in
-    (ready-kept _ _ _ (start .pre .0) _ (laid .lay-parents .ensures .1), (laid-lent _ _ _ (laid .lay-parents .ensures .0), start .pre .1))
+scan-parents-requires c κs = (search (needs, ready-kept), (search (needs, laid-lent), search needs))
 
 in-module-requires : tie.Need-in-module-requires
 in-module-requires c κs = search needs
@@ -47,10 +44,7 @@ same-length : tie.Need-same-length
 same-length c = search needs
 
 returns : tie.Need-returns
-returns c =
-    let scanned = c .before in
-    let laid = scanned .before .before .before .before .before .before .before in
-    (parents-judged _ _ (scanned .scan-parents .ensures) (c .in-module .ensures), laid .lay-parents .ensures .1)
+returns c = (search (needs, parents-judged), search needs)
 
 pub check-parents-spec : {M : Type 1} → statement M
 check-parents-spec =

@@ -2,10 +2,10 @@
 use Prim.Native.Nat.{_-_}
 use mathlib.Core.Path.{refl}
 use borrow.Author.Needs.{needs}
-use native.Mathlib.Omega.{arith}
 use Rattle.blocks.specs.Frame.{firstWords}
 use Rattle.open_layout.specs.Opened.{moduleIn}
-use Rattle.rule3_parents.proofs.ScanSteps.{Scans, laid-in, scan-start, scan-skip, scan-next, scan-end, unfit-stop, deep-stop}
+use Rattle.rule3_parents.proofs.LaidSteps.{laid-in}
+use Rattle.rule3_parents.proofs.ScanSteps.{Scans, scan-start, scan-skip, scan-next, scan-end, unfit-stop, deep-stop}
 use Rattle.rule3_parents.proofs.ScanSteps.{Compares, compare-start, in-parent, in-child, compare-next, compare-stop}
 use Rattle.rule3_parents.proofs.scan_parents.Statement.{statement}
 use Rattle.rule3_parents.proofs.scan_parents.Tie as tie
@@ -72,16 +72,17 @@ sub-t22 c = search needs
 
 field-word-requires : tie.Need-field-word-requires Inv-loop μ-loop Inv-types μ-types
 field-word-requires c κs =
-    let turn = c .before in
-    let types = turn .before .before .before .before .before .before .before .before in
-    (types .before .before .before .before .pre .0, in-parent _ _ _ _ _ _ _ (turn .loop .inv) (c .loop-test .taken))
+    (search needs, in-parent _ _ _ _ _ _ _ (c .before .loop .inv) (c .loop-test .taken))
 
 field-word-requires-2 : tie.Need-field-word-requires-2 Inv-loop μ-loop Inv-types μ-types
 field-word-requires-2 c κs =
     let test = c .before in
     let turn = test .before in
-    let types = turn .before .before .before .before .before .before .before .before in
-    (types .before .before .before .before .pre .0, in-child _ _ _ _ _ _ _ (turn .loop .inv) (test .loop-test .taken))
+    let told = turn .before .before .before in
+    let known = told .before .before .before in
+    let types = known .before .before in
+    let start = types .before .before .before .before in
+    (start .pre .0, in-child _ _ _ _ _ _ _ (turn .loop .inv) (test .loop-test .taken))
 
 add-i : tie.Need-add-i Inv-loop μ-loop Inv-types μ-types
 add-i c = search needs
@@ -114,9 +115,11 @@ types-again-2 c =
     let met = c .before in
     let test = met .before in
     let turn = test .before in
-    let types = turn .before .before .before .before .before .before .before .before in
-    scan-next _ _ _ _ _ _ _ (turn .loop .inv) (test .loop-test .left) _ (types .before .before .before .before .pre .1 .0)
-    (met .chain-length .ensures) (c .if5 .left)
+    let told = turn .before .before .before in
+    let known = told .before .before .before in
+    let types = known .before .before in
+    let start = types .before .before .before .before in
+    scan-next _ _ _ _ _ _ _ (turn .loop .inv) (test .loop-test .left) _ (start .pre .1 .0) (met .chain-length .ensures) (c .if5 .left)
 
 returns : tie.Need-returns Inv-loop μ-loop Inv-types μ-types
 returns c = search (needs, scan-end)
