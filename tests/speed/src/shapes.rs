@@ -1,9 +1,10 @@
 //! Sheets of one shape and of any size, and their host lists. Every one of them is accepted.
 
+use generator::Rng;
 use sheets::build::{func, function, import, ret_void, structure, user};
 use sheets::{
-    build, encode_hosts, encode_sheet, op, Constant, Function, Global, Handler, HostEntry, Param,
-    ShapeEntry, Sheet, TypeEntry, ValueType, DYN, STR,
+    build, encode_hosts, encode_sheet, op, renumber, Constant, Function, Global, Handler,
+    HostEntry, Param, ShapeEntry, Sheet, TypeEntry, ValueType, DYN, STR,
 };
 
 /// What a shape is called, a size that fills most of a sheet, and how it is made.
@@ -43,6 +44,11 @@ pub const SHAPES: &[Shape] = &[
         name: "chains",
         most: 100_000,
         make: chains,
+    },
+    Shape {
+        name: "scattered chains",
+        most: 100_000,
+        make: scattered_chains,
     },
     Shape {
         name: "longest chains",
@@ -232,6 +238,12 @@ fn structs(parents: impl Iterator<Item = Option<u32>>) -> (Sheet, Vec<HostEntry>
 /// n structs on chains of 256.
 fn chains(n: usize) -> (Sheet, Vec<HostEntry>) {
     structs((0..n as u32).map(|k| (k % 256 != 0).then(|| k - 1)))
+}
+
+/// The same, numbered in no order: what is next on a chain is far away.
+fn scattered_chains(n: usize) -> (Sheet, Vec<HostEntry>) {
+    let (sheet, hosts) = chains(n);
+    (renumber(&sheet, &Rng::new(1, 0).permutation(n)), hosts)
 }
 
 /// 255 structs on a chain, and all others below its end.
