@@ -111,16 +111,24 @@ def linked(sheet, hosts):
 def sheet_of(source):
     return subprocess.run([ROOT + '/tools/sheet', 'write', '-', '-o', '-'], input=source.encode(), stdout=subprocess.PIPE).stdout
 
-# FORMAT.md, "The family query", of a table that is linked
+# pre, post and the chain length of a type, if it is one, of a table that is linked
+def span(table, t):
+    first = table[9] + 1
+    return table[first + 3 * t:first + 3 * t + 3] if t < table[table[9]] else None
+
+# FORMAT.md, "The family query"
 def query(table, t, a):
-    at = table[9]
-    pre = lambda x: table[at + 1 + 2 * x]
-    return int(max(t, a) < table[at] and pre(a) <= pre(t) < table[at + 2 + 2 * a])
+    of_t, of_a = span(table, t), span(table, a)
+    return int(bool(of_t and of_a) and of_a[0] <= of_t[0] < of_a[1])
 
 # FORMAT.md, "The size of a family"
 def size(table, a):
-    at = table[9]
-    return max(0, table[at + 2 + 2 * a] - table[at + 1 + 2 * a]) if a < table[at] else 0
+    pre, post, _ = span(table, a) or (0, 0, 0)
+    return max(0, post - pre)
+
+# FORMAT.md, "The length of a chain"
+def length(table, t):
+    return (span(table, t) or (0, 0, 0))[2]
 
 def example(sheet, words, table):
     found, check = words_in(sheet)
@@ -143,9 +151,10 @@ def examples():
     for answer, pairs in ((1, yes), (0, no)):
         for t, a in re.findall(r'\((\d+), (\d+)\)', pairs):
             compare(f'the query on ({t}, {a})', query(table, int(t), int(a)), answer)
-    sizes = re.findall(r'type (\d+)(?: has)? size (\d+)', section('The size of a family'))
-    compare("the small tariff's sizes", [(a, str(size(table, int(a)))) for a, _ in sizes], sizes)
-    compare('how many of them', len(sizes), 4)
+    for heading, number in (('The size of a family', size), ('The length of a chain', length)):
+        said = re.findall(rf'type (\d+)(?: has)? {number.__name__} (\d+)', section(heading))
+        compare(f'the small tariff: {heading}', [(t, str(number(table, int(t)))) for t, _ in said], said)
+        compare('how many of them', len(said), 4)
 
 # the lines of "The report" are what the program prints of that sheet and of a file that is not there
 def reported():

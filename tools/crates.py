@@ -13,21 +13,21 @@ from itertools import zip_longest
 sys.dont_write_bytecode = True
 from imports import IMPORT, ROOT, cited, closure, contract, declared, edges, files, read, unused
 
-# what is claimed: the calls and their answers, the demands, sizes, nearest families and reports, and two claims of their own
+# what is claimed: the calls and their answers, the demands, sizes, lengths, nearest families and reports, and two claims of their own
 STATEMENTS = [
     'load/specs/Load', 'descends/specs/Descends', 'error/specs/Answer', 'calls/specs/Calls', 'law_rows/specs/Rows', 'utf8/specs/Grammar',
-    'descends/specs/Sizes', 'descends/specs/Nearest', 'families/specs/Counted', 'report_lines/specs/Report',
-    'family_calls/specs/FamilyCalls', 'family_calls/specs/NearestCalls',
+    'descends/specs/Sizes', 'descends/specs/Lengths', 'descends/specs/Nearest', 'families/specs/Counted', 'report_lines/specs/Report',
+    'family_calls/specs/FamilyCalls', 'family_calls/specs/NearestCalls', 'family_calls/specs/LengthCalls',
 ]
 # what a user can call, and what is claimed of it: contracts without `requires`, which cite believed files only
 CALLS = {
-    'loader/src/lib': ['load'], 'query/src/lib': ['descends', 'family_size'], 'query_nearest/src/lib': ['nearest'],
+    'loader/src/lib': ['load'], 'query/src/lib': ['descends', 'family_size', 'chain_length'], 'query_nearest/src/lib': ['nearest'],
     'family_sheets/src/lib': ['count_structs'],
     'paqlluri/src/lib': ['paqlluri_load', 'paqlluri_descends', 'paqlluri_family_size', 'paqlluri_count_structs'],
-    'paqlluri/src/nearest': ['paqlluri_nearest'],
+    'paqlluri/src/lengths': ['paqlluri_chain_length'], 'paqlluri/src/nearest': ['paqlluri_nearest'],
     'claims/src/lib': [
-        'call', 'ask', 'ask_size', 'ask_nearest', 'count',
-        'call_numbers', 'ask_number', 'ask_size_numbers', 'ask_nearest_numbers', 'count_numbers',
+        'call', 'ask', 'ask_size', 'ask_length', 'ask_nearest', 'count',
+        'call_numbers', 'ask_number', 'ask_size_numbers', 'ask_length_numbers', 'ask_nearest_numbers', 'count_numbers',
     ],
     'sheet_report/src/lib': ['report_sheet'],
 }

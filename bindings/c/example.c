@@ -1,6 +1,6 @@
 /*
  * Loads a sheet under a host list, prints the six numbers, then says of each pair of types whether one
- * descends from the other, how many types do, and which family of the two is the nearest.
+ * descends from the other, how many types do, how long the chain of the first is, and which family of the two is the nearest.
  *
  *     example SHEET HOSTS [T A]...
  *
@@ -57,15 +57,17 @@ static uint32_t type_number(const char *digits) {
 }
 
 static void print_families(const uint32_t *table, size_t words, int pairs, char **numbers) {
-    uint32_t size[PAQLLURI_COUNT_NUMBERS], nearest[PAQLLURI_NEAREST_NUMBERS];
+    uint32_t size[PAQLLURI_COUNT_NUMBERS], chain[PAQLLURI_COUNT_NUMBERS], nearest[PAQLLURI_NEAREST_NUMBERS];
     int k;
     for (k = 0; k < pairs; k++) {
         const char *t = numbers[2 * k], *a = numbers[2 * k + 1];
         int yes = paqlluri_descends(table, words, type_number(t), type_number(a)) == 1;
         paqlluri_family_size(table, words, type_number(a), size);
+        paqlluri_chain_length(table, words, type_number(t), chain);
         paqlluri_nearest(table, words, type_number(t), type_number(a), nearest);
         printf("%s descends from %s: %s\n", t, a, yes ? "yes" : "no");
         printf("types that descend from %s: %lu\n", a, (unsigned long)size[PAQLLURI_COUNT]);
+        printf("chain length of %s: %lu\n", t, (unsigned long)chain[PAQLLURI_COUNT]);
         if (nearest[PAQLLURI_NEAREST_KIND] == PAQLLURI_FOUND)
             printf("nearest family of %s and %s: %lu\n", t, a, (unsigned long)nearest[PAQLLURI_NEAREST_FAMILY]);
         else

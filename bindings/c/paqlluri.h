@@ -1,6 +1,6 @@
 /*
- * Paqlluri: loads bytecode modules of tariffs, and answers which type descends from which, how many do, and which family
- * of two types is the nearest.
+ * Paqlluri: loads bytecode modules of tariffs, and answers which type descends from which, how many do, how long a chain of
+ * parents is, and which family of two types is the nearest.
  *
  * Link target/staticlib/libpaqlluri.a, which `rt staticlib paqlluri` proves and writes (x86-64, System V ABI).
  * It needs memcpy and memset and nothing else: no heap, no files, no globals. The calls are reentrant, and
@@ -99,7 +99,7 @@ enum paqlluri_kind {
     PAQLLURI_BAD_CALL_SHAPE = 22,       /* a call shape is wrong */
     PAQLLURI_BAD_HOST_LIST = 23,        /* the host list is broken or holds a pair twice */
     PAQLLURI_SHORT_SLICE = 24,          /* table or work is shorter than 64 + 8N words */
-    PAQLLURI_NOT_LINKED = 25,           /* not a linked table (paqlluri_descends, paqlluri_family_size and paqlluri_nearest only) */
+    PAQLLURI_NOT_LINKED = 25,           /* not a linked table (paqlluri_descends and the other queries only) */
     PAQLLURI_MISSED_STRUCT = 26         /* never given */
 };
 
@@ -146,25 +146,38 @@ void paqlluri_load(const uint8_t *sheet, size_t sheet_len, const uint8_t *hosts,
                    size_t table_len, uint32_t *work, size_t work_len, uint32_t answer[6]);
 
 /*
+ * The queries on a linked table, which may be longer than L. It begins with the word 2, and its spans, within the L words,
+ * have three words for each type: pre, post and the chain length. Of any other words the answer is 25 (PAQLLURI_NOT_LINKED),
+ * before all else; so it is of a stored table that begins with 1 and has two words a span, whose sheet is to be loaded again.
+ */
+
+/*
  * Whether type t is type a or descends from it: 1 yes, 0 no, also where a number is no struct type of the sheet
- * or no type at all; 25 (PAQLLURI_NOT_LINKED) where the words are no linked table. A table may be longer than L.
+ * or no type at all; 25 where the words are no linked table.
  */
 uint32_t paqlluri_descends(const uint32_t *table, size_t table_len, uint32_t t, uint32_t a);
 
 /*
  * How many types descend from type a, itself included. Kind 0 with that count, which is 0 where a is no struct type
- * of the sheet or no type at all; 25 (PAQLLURI_NOT_LINKED) where the words are no linked table. A table may be longer
- * than L. Of words that no load wrote the count is post - pre of the span, 0 where post is below pre.
+ * of the sheet or no type at all; 25 where the words are no linked table. Of words that no load wrote the count is
+ * post - pre of the span, 0 where post is below pre.
  */
 void paqlluri_family_size(const uint32_t *table, size_t table_len, uint32_t a, uint32_t answer[2]);
+
+/*
+ * The chain length of type t: how many types are on its chain, from itself up to its root, so 1 at a root and one more than
+ * its parent's elsewhere. Kind 0 with that count, which is 0 where t is no struct type of the sheet or no type at all; 25 where
+ * the words are no linked table. No parent is walked: the count stands in the table. Of words that no load wrote it is the
+ * third word of the span, whatever that is.
+ */
+void paqlluri_chain_length(const uint32_t *table, size_t table_len, uint32_t t, uint32_t answer[2]);
 
 /*
  * The nearest family of types t and u, in any order: of the types that both descend from, a type counting among its own
  * ancestors, the one with the longest chain of declared parents. Kind 0 (PAQLLURI_FOUND) with that type; 1
  * (PAQLLURI_NO_FAMILY, not PAQLLURI_DECODE) where their roots differ, or a number is no struct type of the sheet or no
- * type at all; 25 (PAQLLURI_NOT_LINKED), before all else, where the words are no linked table. A table may be longer than
- * L. Of words that no load wrote it is the lowest-numbered type among those of least post - pre whose span holds both:
- * pre <= pre of t < post, and the same of u.
+ * type at all; 25 where the words are no linked table. Of words that no load wrote it is the lowest-numbered type among
+ * those of least post - pre whose span holds both: pre <= pre of t < post, and the same of u.
  */
 void paqlluri_nearest(const uint32_t *table, size_t table_len, uint32_t t, uint32_t u, uint32_t answer[2]);
 

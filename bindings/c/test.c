@@ -65,7 +65,7 @@ static void loads(const uint8_t *sheet, const uint8_t *hosts) {
     paqlluri_load(sheet, bytes, hosts, bytes, table, ENOUGH, work, ENOUGH, answer);
     expect("the empty sheet", answer[PAQLLURI_KIND] == PAQLLURI_ACCEPTED && answer[PAQLLURI_WORD] == 0 && answer[PAQLLURI_NUMBER] == 49 &&
                                   all(answer, 3, PAQLLURI_NUMBERS, 0) && answer[PAQLLURI_NUMBERS] == BEFORE);
-    expect("its table", table[0] == 1 && table[1] == 49 && table[2] == 10 && table[48] == 0 && all(table, 49, ENOUGH + 1, BEFORE));
+    expect("its table", table[0] == 2 && table[1] == 49 && table[2] == 10 && table[48] == 0 && all(table, 49, ENOUGH + 1, BEFORE));
     expect("work after it", all(work, 0, ENOUGH, 0) && work[ENOUGH] == BEFORE);
     expect("no family", paqlluri_descends(table, 49, 0, 0) == 0 && paqlluri_descends(table, ENOUGH, UINT32_MAX, 0) == 0);
     expect("a word of it missing", paqlluri_descends(table, 48, 0, 0) == PAQLLURI_NOT_LINKED);
@@ -114,6 +114,25 @@ static void sizes(uint32_t *lifts, size_t length) {
     expect("more spans than words", sized(lifts, length, 0, PAQLLURI_NOT_LINKED, 0));
 }
 
+static int is_long(const uint32_t *words, size_t length, uint32_t t, uint32_t kind, uint32_t chain) {
+    uint32_t numbers[PAQLLURI_COUNT_NUMBERS + 1] = {BEFORE, BEFORE, BEFORE};
+    paqlluri_chain_length(words, length, t, numbers);
+    return counted(numbers, kind, chain);
+}
+
+/* The families are those of sizes. */
+static void lengths(const uint32_t *lifts, size_t length) {
+    static const uint32_t expected[] = {1, 2, 2, 3, 0, 0, 0, 0, 0};
+    const uint32_t not_linked = PAQLLURI_NOT_LINKED;
+    uint32_t t;
+    for (t = 0; t < sizeof expected / sizeof *expected; t++)
+        expect("the length of a chain", is_long(lifts, length, t, 0, expected[t]) && is_long(lifts, lifts[1], t, 0, expected[t]));
+    expect("the chain of no type", is_long(lifts, length, UINT32_MAX, 0, 0) && is_long(lifts, length, 0x80000000u, 0, 0));
+    expect("no chain in a table that is short", is_long(lifts, lifts[1] - 1, 3, not_linked, 0) && is_long(lifts, 9, 99, not_linked, 0));
+    expect("no chain in no words", is_long(NULL, 0, 0, not_linked, 0) && is_long(NULL, 0, UINT32_MAX, not_linked, 0));
+    expect("no chain in words of something else", is_long(lifts + 1, length - 1, 3, not_linked, 0));
+}
+
 static int one_way(const uint32_t *words, size_t length, uint32_t t, uint32_t u, uint32_t kind, uint32_t family) {
     uint32_t numbers[PAQLLURI_NEAREST_NUMBERS + 1] = {BEFORE, BEFORE, BEFORE};
     paqlluri_nearest(words, length, t, u, numbers);
@@ -133,8 +152,10 @@ static int has_none(const uint32_t *words, size_t length, uint32_t t, uint32_t u
     return both_ways(words, length, t, u, PAQLLURI_NO_FAMILY, 0);
 }
 
+/* By every query. */
 static int is_no_table(const uint32_t *words, size_t length, uint32_t t, uint32_t u) {
-    return both_ways(words, length, t, u, PAQLLURI_NOT_LINKED, 0);
+    return both_ways(words, length, t, u, PAQLLURI_NOT_LINKED, 0) && paqlluri_descends(words, length, t, u) == PAQLLURI_NOT_LINKED &&
+           sized(words, length, t, PAQLLURI_NOT_LINKED, 0) && is_long(words, length, t, PAQLLURI_NOT_LINKED, 0);
 }
 
 /* The families are those of sizes. */
@@ -157,20 +178,64 @@ static void nearest(const uint32_t *lifts, size_t length) {
 }
 
 /* Spans that no load writes: two that are equal, a narrower one, one with post below pre, one that nothing holds; and no struct. */
-static void nearest_in_any_words(void) {
-    uint32_t words[] = {1, 23, 0, 0, 0, 0, 0, 0, 0, 10, 6, 0, 4, 0, 4, 1, 2, 3, 1, 9, 9, UINT32_MAX, 0};
+static void any_words(void) {
+    uint32_t words[] = {2, 29, 0, 0, 0, 0, 0, 0, 0, 10, 6, 0, 4, 7, 0, 4, 0, 1, 2, UINT32_MAX, 3, 1, 1, 9, 9, 257, UINT32_MAX, 0, 5};
     const size_t length = sizeof words / sizeof *words;
     expect("the lower of equal spans", is_nearest(words, length, 0, 1, 0) && is_nearest(words, length, 1, 1, 0));
     expect("a narrower span", is_nearest(words, length, 2, 2, 2) && is_nearest(words, length, 2, 1, 0));
     expect("post below pre", is_nearest(words, length, 3, 3, 0) && is_nearest(words, length, 3, 2, 0));
     expect("not even itself", has_none(words, length, 4, 4) && has_none(words, length, 5, 5) && has_none(words, length, 4, 0));
+    expect("any third word", is_long(words, length, 0, 0, 7) && is_long(words, length, 1, 0, 0) && is_long(words, length, 5, 0, 5));
+    expect("the most of all", is_long(words, length, 2, 0, UINT32_MAX) && is_long(words, length, 6, 0, 0));
     expect("as many spans as fit", has_none(words, length, 6, 0) && is_no_table(words, length - 1, 6, 0));
     words[10] = 7;
     expect("a span too many", is_no_table(words, length, 0, 0) && is_no_table(words, length, 7, 7));
+    words[10] = 0x55555556u;
+    expect("three times as many are two in 32 bits", is_no_table(words, length, 0, 0));
     words[10] = 0x80000000u;
-    expect("twice as many are none in 32 bits", is_no_table(words, length, 0, 0));
+    expect("half as many as numbers", is_no_table(words, length, 0, 0));
     words[10] = UINT32_MAX;
     expect("the most spans", is_no_table(words, length, 0, UINT32_MAX));
+}
+
+/* Chain lengths are read by no other query. The table is as before in the end. */
+static void unread_lengths(uint32_t *lifts, size_t length) {
+    uint32_t *third = lifts + lifts[9] + 3, before = *third;
+    *third = 77;
+    expect("another chain length", is_long(lifts, length, 0, 0, 77) && is_long(lifts, length, 1, 0, 2));
+    expect("the families beside it", paqlluri_descends(lifts, length, 3, 0) == 1 && sized(lifts, length, 0, 0, 4) &&
+                                         is_nearest(lifts, length, 3, 1, 0) && is_nearest(lifts, length, 3, 2, 2));
+    *third = before;
+}
+
+/* The table with two words a span, behind this first word; how long it is. */
+static size_t without_lengths(const uint32_t *lifts, uint32_t first, uint32_t *words) {
+    const size_t spans = lifts[9];
+    const uint32_t types = lifts[spans];
+    uint32_t t;
+    memcpy(words, lifts, (spans + 1) * sizeof *words);
+    for (t = 0; t < types; t++)
+        memcpy(words + spans + 1 + 2 * t, lifts + spans + 1 + 3 * t, 2 * sizeof *words);
+    words[0] = first;
+    words[1] = lifts[1] - types;
+    return words[1];
+}
+
+/* A table without chain lengths is none, whatever its first word, and so is one that begins with another word than 2. */
+static void other_formats(const uint32_t *lifts) {
+    static uint32_t words[LIFTS_WORDS];
+    uint32_t first;
+    for (first = 1; first <= 3; first++) {
+        size_t length = without_lengths(lifts, first, words);
+        expect("two words a span", is_no_table(words, length, 0, 0) && is_no_table(words, length, 3, UINT32_MAX));
+        expect("two words a span and more behind", is_no_table(words, LIFTS_WORDS, 0, 0));
+    }
+    memcpy(words, lifts, lifts[1] * sizeof *words);
+    expect("three words a span", !is_no_table(words, lifts[1], 0, 0));
+    for (first = 1; first <= 3; first += 2) {
+        words[0] = first;
+        expect("another first word", is_no_table(words, lifts[1], 0, 0) && is_no_table(words, lifts[1], 3, UINT32_MAX));
+    }
 }
 
 static int counts(const uint8_t *sheet, size_t length, uint32_t kind, uint32_t count) {
@@ -206,11 +271,14 @@ static void families(const uint8_t *empty, const char *sheet_name, const char *h
         return;
     }
     paqlluri_load(sheet, sizeof sheet, hosts, sizeof hosts, lifts, LIFTS_WORDS, room, LIFTS_WORDS, answer);
-    expect("the lifts", answer[PAQLLURI_KIND] == PAQLLURI_ACCEPTED && answer[PAQLLURI_NUMBER] == 167);
+    expect("the lifts", answer[PAQLLURI_KIND] == PAQLLURI_ACCEPTED && answer[PAQLLURI_NUMBER] == 174);
     if (wrong)
         return;
     nearest(lifts, LIFTS_WORDS);
-    nearest_in_any_words();
+    lengths(lifts, LIFTS_WORDS);
+    unread_lengths(lifts, LIFTS_WORDS);
+    any_words();
+    other_formats(lifts);
     sizes(lifts, LIFTS_WORDS);
     structs(empty, sheet);
 }

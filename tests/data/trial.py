@@ -15,16 +15,16 @@ NOT_A_LIST = [23]
 EMPTY = 10 + 8 + 31
 
 # record, canonical number and span of a type
-FN = COROUTINE_TYPE = 1 + 1 + 2
-ARRAY = CELL = 2 + 1 + 2
-MAP = ITER = 3 + 1 + 2
+FN = COROUTINE_TYPE = 1 + 1 + 3
+ARRAY = CELL = 2 + 1 + 3
+MAP = ITER = 3 + 1 + 3
 IMPORT = 2
 # signature, registers, parameters, result, and six lists without members, the catch table's being 0
 FUNC = 4 + 6
 
 # kind and parent, four lists, canonical number and span; a name and a method are two words each
 def struct_type(fields=0, references=0, names=0, methods=0):
-    return 2 + 4 + 1 + 2 + fields + references + 2 * names + 2 * methods
+    return 2 + 4 + 1 + 3 + fields + references + 2 * names + 2 * methods
 
 def accepted(*words):
     return [0, 0, EMPTY + sum(words)]

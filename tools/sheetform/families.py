@@ -156,10 +156,30 @@ def tree(families):
         lines.append(before + line(families, t))
     return lines
 
+# structs in no family, each with the reason
+def outside(families):
+    apart = families.apart()
+    return ['in no family:'] * bool(apart) + [f'  {families.name(t)} (type {t}, {counted(families, t)}): {reason}' for t, reason in apart]
+
+# parts with an empty line between them
+def joined(*parts):
+    return '\n'.join('\n'.join([*part, '']) for part in parts if part) or 'no struct types\n'
+
 def shown(module):
     families = Families(module)
-    lines, apart = tree(families), families.apart()
-    if apart:
-        lines += [''] if lines else []
-        lines += ['in no family:'] + [f'  {families.name(t)} (type {t}, {counted(families, t)}): {reason}' for t, reason in apart]
-    return '\n'.join(lines or ['no struct types']) + '\n'
+    return joined(tree(families), outside(families))
+
+# numbers in columns, then a text
+def aligned(*cells):
+    *numbers, last = cells
+    return ''.join(f'{number:>8}' for number in numbers) + f'  {last}'
+
+# each type with its depth, which is how long its chain is, from the roots down, those of one depth by their numbers
+def by_depth(module):
+    families = Families(module)
+    lines = [aligned('depth', 'type', 'parent', 'family')] if families.walk else []
+    for depth, t in sorted((depth + 1, t) for t, depth in families.walk):
+        remark = families.remark(t)
+        name = families.name(t) + (f' [{remark}]' if remark else '')
+        lines.append(aligned(depth, t, families.parent(t) if depth > 1 else '', name))
+    return joined(lines, outside(families))

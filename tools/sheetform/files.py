@@ -6,8 +6,12 @@ from .lexer import OVER, Wrong, word_of
 # a byte more than 4,096 blocks shows that there are more; a text of such a sheet can be longer
 MOST, MOST_TEXT = 4096 * 512 + 1, 1 << 27
 USAGE = dict(write='write TEXT [-o FILE]', show='show [--hosts] FILE [-o TEXT]', table='table SHEET [HOSTS]',
-             families='families SHEET [--svg FILE | --dot FILE]', nearest='nearest SHEET HOSTS TYPE TYPE')
-OPTIONS = dict(write=['-o'], show=['-o', '--hosts'], table=[], families=['--svg', '--dot'], nearest=[])
+             families='families SHEET [--by-depth | --svg FILE | --dot FILE]', nearest='nearest SHEET HOSTS TYPE TYPE')
+OPTIONS = dict(write=['-o'], show=['-o', '--hosts'], table=[], families=['--by-depth', '--svg', '--dot'], nearest=[])
+# options without a file behind them
+PLAIN = ['--hosts', '--by-depth']
+# of these at most one
+EITHER = ['by_depth', 'svg', 'dot']
 # how many words stand beside the options, at least and at most
 NAMES = dict(write=(1, 1), show=(1, 1), table=(1, 2), families=(1, 1), nearest=(4, 4))
 
@@ -43,17 +47,19 @@ def arguments(given):
         raise Failed(f'usage: tools/sheet {"|".join(USAGE)} ...; tools/sheet --help says more')
     command, rest = given[0], given[1:]
     usage = f'usage: tools/sheet {USAGE[command]}'
-    out, names = SimpleNamespace(command=command, o=None, hosts=False, svg=None, dot=None, under=None), []
+    out, names = SimpleNamespace(command=command, o=None, hosts=None, by_depth=None, svg=None, dot=None, under=None), []
     while rest:
         first = rest.pop(0)
+        name = first.lstrip('-').replace('-', '_')
         if not first.startswith('-') or first == '-':
             names.append(first)
-        elif first not in OPTIONS[command] or getattr(out, first.lstrip('-')) not in (None, False) or (first != '--hosts' and not rest):
+        elif first not in OPTIONS[command] or getattr(out, name) is not None or (first not in PLAIN and not rest):
             raise Failed(usage)
         else:
-            setattr(out, first.lstrip('-'), True if first == '--hosts' else rest.pop(0))
+            setattr(out, name, True if first in PLAIN else rest.pop(0))
     least, most = NAMES[command]
-    if not least <= len(names) <= most or None not in (out.svg, out.dot) or names[:2] == ['-', '-']:
+    several = sum(getattr(out, name) is not None for name in EITHER) > 1
+    if not least <= len(names) <= most or several or names[:2] == ['-', '-']:
         raise Failed(usage)
     out.file, out.under, out.types = names[0], names[1] if len(names) > 1 else None, list(map(type_of, names[2:]))
     return out

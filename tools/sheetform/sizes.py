@@ -1,6 +1,6 @@
 """The families of an accepted sheet with their sizes: in lines, and in rows for a spreadsheet."""
 import csv, io
-from .families import Families, branches, plural
+from .families import Families, aligned, branches, plural
 from .files import Failed
 from .module import SHEET, read
 
@@ -42,10 +42,6 @@ class Sizes:
 
     def named(self, t):
         return ['', ''] if t is None else [t, self.families.called(t)]
-
-def aligned(*cells):
-    *numbers, last = cells
-    return ''.join(f'{number:>8}' for number in numbers) + f'  {last}'
 
 # texts that could be taken for a formula, or begin with what is not seen, get an apostrophe, which tells a spreadsheet that they are texts
 def harmless(cell):

@@ -11,8 +11,11 @@ LinkedFunction = namedtuple('LinkedFunction', 'sig registers_count params_count 
 LinkedFunc = namedtuple('LinkedFunc', '')
 LinkedStruct = namedtuple('LinkedStruct', 'parent fields references field_names methods')
 LinkedImport = namedtuple('LinkedImport', 'sig place')
-Span = namedtuple('Span', 'pre post')
+Span = namedtuple('Span', 'pre post length')
 Linked = namedtuple('Linked', 'functions types imports hooks canon globals references spans')
+
+# the first word of a linked table
+FIRST = 2
 
 def words(what):
     return Many(what, Word(what))
@@ -24,11 +27,12 @@ STRUCT = Record(LinkedStruct, Word('parent + 1'), words('field'), words('referen
     Many('method', pair(Word('name'), Word('function'))))
 TYPE = OneOf('type kind', Record(LinkedFunc), STRUCT, Record(Array, V), Record(Map, V, V), Record(Cell, V), Record(Iter, V, V), Record(Coroutine))
 SECTIONS = [Many('function', FUNCTION), Many('type', TYPE), Many('import', Record(LinkedImport, Word('signature'), Word('host function'))), words('hook'),
-            words('canonical number'), words('global'), words('reference global'), Many('span', Record(Span, Word('pre'), Word('post')))]
+            words('canonical number'), words('global'), words('reference global'),
+            Many('span', Record(Span, Word('pre'), Word('post'), Word('chain length')))]
 
 # the records, or None where the words are no linked table
 def parse_table(given):
-    if len(given) < 10 or given[0] != 1 or given[1] != len(given):
+    if len(given) < 10 or given[0] != FIRST or given[1] != len(given):
         return None
     r = Reader(given, len(given))
     r.at, found = 10, []
@@ -46,7 +50,7 @@ def table_words(linked):
     for section, members in zip(SECTIONS, linked):
         starts.append(10 + len(out))
         section.write(members, out)
-    return [1, 10 + len(out), *starts, *out]
+    return [FIRST, 10 + len(out), *starts, *out]
 
 # ranges of positions with the same handler
 def ranges(catches):
@@ -123,12 +127,12 @@ class Describer:
 
     # structs in the order of the walk, below each those inside its span
     def spans(self):
-        structs = sorted((span.pre, span.post, t) for t, span in enumerate(self.linked.spans) if span.pre != TOP)
+        structs = sorted((span, t) for t, span in enumerate(self.linked.spans) if span.pre != TOP)
         out, ends = [], []
-        for pre, post, t in structs:
+        for (pre, post, length), t in structs:
             while ends and ends[-1] <= pre:
                 ends.pop()
-            out.append(f'  {"  " * len(ends)}{self.numbered("type", t)}: {pre} to {post}')
+            out.append(f'  {"  " * len(ends)}{self.numbered("type", t)}: {pre} to {post}, chain length {length}')
             ends.append(post)
         rest = [self.label('type', t) for t, span in enumerate(self.linked.spans) if span.pre == TOP]
         return out + ([f'  no structs: {", ".join(rest)}'] if rest else [])

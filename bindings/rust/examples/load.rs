@@ -1,5 +1,6 @@
 //! Loads a sheet under a host list, prints the six numbers, then says of each pair of types whether one
-//! descends from the other, how many types do, and which family of the two is the nearest: `load SHEET HOSTS [T A]...`.
+//! descends from the other, how many types do, how long the chain of the first is, and which family of the two is the
+//! nearest: `load SHEET HOSTS [T A]...`.
 //! Exit status: 0 accepted, 1 refused, 2 not tried.
 
 use std::env;
@@ -46,6 +47,7 @@ fn judge(sheet: &[u8], hosts: &[u8], pairs: &[[TypeId; 2]]) -> ExitCode {
                 let answer = if linked.descends(t, a) { "yes" } else { "no" };
                 println!("{} descends from {}: {answer}", t.0, a.0);
                 println!("types that descend from {}: {}", a.0, linked.family_size(a));
+                println!("chain length of {}: {}", t.0, linked.chain_length(t));
                 let nearest = linked.nearest(t, a).map(|family| family.0.to_string());
                 let nearest = nearest.as_deref().unwrap_or("none");
                 println!("nearest family of {} and {}: {nearest}", t.0, a.0);

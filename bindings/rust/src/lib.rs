@@ -2,8 +2,8 @@
 //!
 //! [`load`] takes the bytes of a sheet and of a host list, which nobody need check first, and either
 //! refuses the sheet ([`LoadError`]) or writes its linked table into a borrowed slice ([`Linked`]).
-//! [`Linked::descends`] then says which type belongs to which family, [`Linked::family_size`] how many do, and
-//! [`Linked::nearest`] which family of two types is the nearest.
+//! [`Linked::descends`] then says which type belongs to which family, [`Linked::family_size`] how many do,
+//! [`Linked::chain_length`] how far a type is from its root, and [`Linked::nearest`] which family of two types is the nearest.
 //!
 //! ```
 //! use paqlluri::{load, table_words, work_words, TypeId};
@@ -22,6 +22,7 @@
 //! assert!(linked.descends(hydraulic, goods) && linked.descends(hydraulic, lift));
 //! assert!(!linked.descends(hydraulic, passenger));
 //! assert_eq!(linked.family_size(goods), 2);
+//! assert_eq!((linked.chain_length(lift), linked.chain_length(hydraulic)), (1, 3));
 //! assert_eq!(linked.nearest(hydraulic, passenger), Some(lift));
 //! # Ok(())
 //! # }
@@ -138,6 +139,33 @@ pub fn count_structs(sheet: &[u8]) -> Result<u32, BrokenLayout> {
     }
 }
 
+/// The chain length of type `t` by any words: what [`Linked::chain_length`] says of a linked table.
+///
+/// Of words that [`load`] did not write it is the third word of the type's span, whatever that is.
+///
+/// # Errors
+///
+/// [`NotLinked`], which is kind 25, where the words are no linked table, whatever the type is.
+///
+/// ```
+/// use paqlluri::{chain_length, NotLinked, TypeId};
+///
+/// // Type 0 has the span from 0 to 2, type 1 the one from 1 to 2 in it.
+/// let words = [2, 17, 0, 0, 0, 0, 0, 0, 0, 10, 2, 0, 2, 1, 1, 2, 2];
+/// assert_eq!(chain_length(&words, TypeId(1)), Ok(2));
+/// assert_eq!(chain_length(&words, TypeId(2)), Ok(0));
+/// // Two words a span, behind a first word of 1.
+/// let words = [1, 15, 0, 0, 0, 0, 0, 0, 0, 10, 2, 0, 2, 1, 2];
+/// assert_eq!(chain_length(&words, TypeId(1)), Err(NotLinked));
+/// ```
+pub fn chain_length(words: &[u32], t: TypeId) -> Result<u32, NotLinked> {
+    match raw::chain_length(words, t.0) {
+        [0, length] => Ok(length),
+        // There is no other kind than 0 and 25.
+        _ => Err(NotLinked),
+    }
+}
+
 /// The nearest family of types `t` and `u` by any words: what [`Linked::nearest`] says of a linked table.
 ///
 /// Of words that [`load`] did not write it is the lowest-numbered type among those of least post minus pre whose span holds
@@ -151,7 +179,7 @@ pub fn count_structs(sheet: &[u8]) -> Result<u32, BrokenLayout> {
 /// use paqlluri::{nearest, NotLinked, TypeId};
 ///
 /// // Type 0 has the span from 0 to 2, type 1 the one from 1 to 2 in it.
-/// let words = [1, 15, 0, 0, 0, 0, 0, 0, 0, 10, 2, 0, 2, 1, 2];
+/// let words = [2, 17, 0, 0, 0, 0, 0, 0, 0, 10, 2, 0, 2, 1, 1, 2, 2];
 /// assert_eq!(nearest(&words, TypeId(1), TypeId(0)), Ok(Some(TypeId(0))));
 /// assert_eq!(nearest(&words, TypeId(1), TypeId(2)), Ok(None));
 /// assert_eq!(nearest(&words[1..], TypeId(1), TypeId(2)), Err(NotLinked));
@@ -166,6 +194,8 @@ pub fn nearest(words: &[u32], t: TypeId, u: TypeId) -> Result<Option<TypeId>, No
 }
 
 /// A linked table: the words that [`load`] wrote, or stored ones.
+///
+/// It begins with the word 2, and its spans have three words for each type: pre, post and the chain length.
 #[derive(Clone, Copy, Debug, PartialEq, Eq)]
 pub struct Linked<'a> {
     words: &'a [u32],
@@ -176,11 +206,13 @@ impl<'a> Linked<'a> {
     ///
     /// What is looked at is what the family queries rely on: the first word, the length, and where the spans stand.
     /// Whether [`load`] wrote the rest is not known; any answer of [`descends`](Self::descends),
-    /// [`family_size`](Self::family_size) and [`nearest`](Self::nearest) is then one about these words.
+    /// [`family_size`](Self::family_size), [`chain_length`](Self::chain_length) and [`nearest`](Self::nearest) is then one
+    /// about these words.
     ///
     /// # Errors
     ///
-    /// [`NotLinked`], which is kind 25, where the words are no linked table.
+    /// [`NotLinked`], which is kind 25, where the words are no linked table. So it is of a stored table that begins with 1 and
+    /// has two words a span: its sheet is to be loaded again.
     ///
     /// ```
     /// # use paqlluri::{Linked, NotLinked};
@@ -235,6 +267,34 @@ impl<'a> Linked<'a> {
         // These words are a linked table, so the kind is 0.
         let [_, size] = raw::family_size(self.words, a.0);
         size
+    }
+
+    /// How many types are on the chain of type `t`, from itself up to its root: 1 at a root, and one more than its parent's
+    /// elsewhere.
+    ///
+    /// Numbers that are no struct type of the sheet, or no type at all, have no chain: 0. No parent is walked, as the length
+    /// stands in the table.
+    ///
+    /// ```
+    /// # use paqlluri::{load, LoadError, TypeId};
+    /// # fn main() -> Result<(), LoadError> {
+    /// # let sheet = include_bytes!(concat!(env!("CARGO_MANIFEST_DIR"), "/../../samples/lifts.sheet"));
+    /// # let hosts = include_bytes!(concat!(env!("CARGO_MANIFEST_DIR"), "/../../samples/hosts"));
+    /// # let (mut table, mut work) = ([0; 4096], [0; 4096]);
+    /// let linked = load(sheet, hosts, &mut table, &mut work)?;
+    /// // Lift, PassengerLift, GoodsLift and HydraulicGoodsLift below that; a func type; no type.
+    /// let lengths = [0, 1, 2, 3, 4, 99].map(|t| linked.chain_length(TypeId(t)));
+    /// assert_eq!(lengths, [1, 2, 2, 3, 0, 0]);
+    /// # Ok(())
+    /// # }
+    /// ```
+    #[must_use]
+    // As for `family_size`.
+    #[inline]
+    pub fn chain_length(&self, t: TypeId) -> u32 {
+        // These words are a linked table, so the kind is 0.
+        let [_, length] = raw::chain_length(self.words, t.0);
+        length
     }
 
     /// The nearest family of types `t` and `u`: of the types that both descend from, a type counting among its own

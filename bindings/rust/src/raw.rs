@@ -1,6 +1,6 @@
 //! The calls with the numbers of the answers as they are.
 //!
-//! [`load`](crate::load), [`Linked`](crate::Linked), [`nearest`](crate::nearest) and
+//! [`load`](crate::load), [`Linked`](crate::Linked), [`chain_length`](crate::chain_length), [`nearest`](crate::nearest) and
 //! [`count_structs`](crate::count_structs) say the same in types.
 
 #![allow(unsafe_code)]
@@ -25,6 +25,13 @@ mod ffi {
             table: *const u32,
             table_len: usize,
             a: u32,
+            answer: *mut [u32; 2],
+        );
+
+        pub fn paqlluri_chain_length(
+            table: *const u32,
+            table_len: usize,
+            t: u32,
             answer: *mut [u32; 2],
         );
 
@@ -78,6 +85,17 @@ pub fn family_size(table: &[u32], a: u32) -> [u32; 2] {
     let mut answer = [0; 2];
     // SAFETY: pointer and length are a slice's; the function reads any words within it alone, and writes the answer.
     unsafe { ffi::paqlluri_family_size(table.as_ptr(), table.len(), a, &raw mut answer) }
+    answer
+}
+
+/// How many types are on the chain of type `t`, from itself up to its root: 0 and the length, which is 0 where `t` is no struct
+/// type, or 25 and 0 where the words are no linked table.
+#[must_use]
+#[inline]
+pub fn chain_length(table: &[u32], t: u32) -> [u32; 2] {
+    let mut answer = [0; 2];
+    // SAFETY: pointer and length are a slice's; the function reads any words within it alone, and writes the answer.
+    unsafe { ffi::paqlluri_chain_length(table.as_ptr(), table.len(), t, &raw mut answer) }
     answer
 }
 

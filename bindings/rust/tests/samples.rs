@@ -1,8 +1,8 @@
 //! The library on the samples, on wrong words, and on a small stack.
 
 use paqlluri::{
-    count_structs, load, nearest, raw, table_words, work_words, BrokenLayout, Linked, LoadError,
-    LoadErrorKind, NotLinked, StrId, TypeId, MOST_WORDS,
+    chain_length, count_structs, load, nearest, raw, table_words, work_words, BrokenLayout, Linked,
+    LoadError, LoadErrorKind, NotLinked, StrId, TypeId, MOST_WORDS,
 };
 
 const EMPTY: &[u8] = include_bytes!("../../../samples/empty.sheet");
@@ -36,11 +36,11 @@ fn kind(verdict: Result<usize, LoadError>) -> LoadErrorKind {
 fn the_lifts_are_accepted_and_have_families() {
     let words = table_words(LIFTS.len());
     let (verdict, [table, work]) = tried(LIFTS, HOSTS, words);
-    assert_eq!(verdict, Ok(167));
-    assert!(table[167..].iter().all(|&w| w == BEFORE));
+    assert_eq!(verdict, Ok(174));
+    assert!(table[174..].iter().all(|&w| w == BEFORE));
     assert!(work.iter().all(|&w| w == 0));
     let linked = Linked::from_words(&table).expect("a linked table");
-    assert_eq!(linked.words(), &table[..167]);
+    assert_eq!(linked.words(), &table[..174]);
     // Lift; PassengerLift and GoodsLift below it; HydraulicGoodsLift below GoodsLift; func types.
     let parents = [None, Some(0), Some(0), Some(2)];
     for t in 0..9 {
@@ -75,7 +75,7 @@ fn the_lifts_families_have_sizes() {
     assert_eq!(linked.family_size(TypeId(u32::MAX)), 0);
     // Lift is the only root.
     assert_eq!(count_structs(LIFTS), Ok(linked.family_size(TypeId(0))));
-    for words in [&[][..], &table[..9], &table[..166], &table[1..]] {
+    for words in [&[][..], &table[..9], &table[..173], &table[1..]] {
         assert_eq!(raw::family_size(words, 0), [25, 0]);
         assert_eq!(raw::family_size(words, u32::MAX), [25, 0]);
     }
@@ -84,6 +84,70 @@ fn the_lifts_families_have_sizes() {
     table[pre] = 5;
     assert_eq!(raw::family_size(&table, 0), [0, 0]);
     assert_eq!(raw::family_size(&table, 2), [0, 2]);
+}
+
+/// By all three calls where the words are a linked table.
+fn assert_length(words: &[u32], t: u32, expected: Result<u32, NotLinked>) {
+    let numbers = expected.map_or([25, 0], |length| [0, length]);
+    assert_eq!(raw::chain_length(words, t), numbers, "{t}");
+    assert_eq!(chain_length(words, TypeId(t)), expected, "{t}");
+    let linked = Linked::from_words(words);
+    assert_eq!(linked.map(|l| l.chain_length(TypeId(t))), expected, "{t}");
+}
+
+#[test]
+fn the_lifts_have_chain_lengths() {
+    let (_, [mut table, _]) = tried(LIFTS, HOSTS, table_words(LIFTS.len()));
+    // Func types, and no types.
+    let others = [4, 5, 6, 7, 8, 1 << 31, u32::MAX].map(|t| (t, 0));
+    for (t, length) in [(0, 1), (1, 2), (2, 2), (3, 3)].into_iter().chain(others) {
+        assert_length(&table, t, Ok(length));
+        assert_length(&table[..174], t, Ok(length));
+    }
+    for words in [&[][..], &table[..9], &table[..173], &table[1..]] {
+        assert_length(words, 3, Err(NotLinked));
+        assert_length(words, u32::MAX, Err(NotLinked));
+    }
+    // On words that no load wrote it is what stands there, and no other query reads it.
+    let third = table[9] as usize + 3;
+    for word in [0, 257, u32::MAX] {
+        table[third] = word;
+        assert_length(&table, 0, Ok(word));
+        assert_length(&table, 1, Ok(2));
+        assert_nearest(&table, [3, 1], Ok(Some(0)));
+        assert_eq!(raw::family_size(&table, 0), [0, 4]);
+        assert_eq!(raw::descends(&table, 3, 0), 1);
+    }
+}
+
+/// The table with two words a span, behind this first word.
+fn without_lengths(table: &[u32], first: u32) -> Vec<u32> {
+    let (before, spans) = table.split_at(table[9] as usize + 1);
+    let pairs = spans.chunks(3).flat_map(|span| &span[..2]);
+    let mut words: Vec<u32> = before.iter().chain(pairs).copied().collect();
+    (words[0], words[1]) = (first, words.len() as u32);
+    words
+}
+
+#[test]
+fn tables_of_another_format_are_none() {
+    let (_, [table, _]) = tried(LIFTS, HOSTS, table_words(LIFTS.len()));
+    let mut others = [1, 2, 3]
+        .map(|first| without_lengths(&table[..174], first))
+        .to_vec();
+    assert!(others.iter().all(|words| words.len() == 167));
+    for first in [0, 1, 3] {
+        others.push([&[first], &table[1..]].concat());
+    }
+    for words in others {
+        for t in [0, 3, 99] {
+            assert_length(&words, t, Err(NotLinked));
+            assert_nearest(&words, [t, 0], Err(NotLinked));
+            assert_eq!(raw::family_size(&words, t), [25, 0]);
+            assert_eq!(raw::descends(&words, t, 0), 25);
+        }
+    }
+    assert_eq!(NotLinked.to_string(), "not a linked table");
 }
 
 /// A pair in both orders, by all three calls where the words are a linked table.
@@ -110,7 +174,7 @@ fn the_lifts_have_nearest_families() {
     for (t, families) in (0..).zip(expected) {
         for (u, family) in (0..).zip(families) {
             assert_nearest(&table, [t, u], Ok(Some(family)));
-            assert_nearest(&table[..167], [t, u], Ok(Some(family)));
+            assert_nearest(&table[..174], [t, u], Ok(Some(family)));
         }
         // Func types, and no types.
         for u in [4, 5, 6, 7, 8, 1 << 31, u32::MAX] {
@@ -118,7 +182,7 @@ fn the_lifts_have_nearest_families() {
             assert_nearest(&table, [u, u], Ok(None));
         }
     }
-    for words in [&[][..], &table[..9], &table[..166], &table[1..]] {
+    for words in [&[][..], &table[..9], &table[..173], &table[1..]] {
         assert_nearest(words, [0, 0], Err(NotLinked));
         assert_nearest(words, [3, u32::MAX], Err(NotLinked));
     }
@@ -129,8 +193,8 @@ fn nearest_families_of_words_that_no_load_wrote() {
     // Two spans that are equal, a narrower one, one with post below pre, one that nothing holds; no struct.
     #[rustfmt::skip]
     let mut words = [
-        1, 23, 0, 0, 0, 0, 0, 0, 0, 10,
-        6, 0, 4, 0, 4, 1, 2, 3, 1, 9, 9, u32::MAX, 0,
+        2, 29, 0, 0, 0, 0, 0, 0, 0, 10,
+        6, 0, 4, 7, 0, 4, 0, 1, 2, 1, 3, 1, 1, 9, 9, 257, u32::MAX, 0, 5,
     ];
     let found = [
         (0, 1, 0),
@@ -146,12 +210,13 @@ fn nearest_families_of_words_that_no_load_wrote() {
     for pair in [[4, 4], [5, 5], [4, 0], [6, 0], [u32::MAX, 6]] {
         assert_nearest(&words, pair, Ok(None));
     }
-    assert_nearest(&words[..22], [6, 0], Err(NotLinked));
-    // One span more than there is; as many that twice the number is 0 in 32 bits; the most.
-    for count in [7, 1 << 31, u32::MAX] {
+    assert_nearest(&words[..28], [6, 0], Err(NotLinked));
+    // One span more than there is; as many that three times the number is 2 or 5 in 32 bits; half of all; the most.
+    for count in [7, 0x5555_5556, 0x5555_5557, 1 << 31, u32::MAX] {
         words[10] = count;
         assert_nearest(&words, [0, 0], Err(NotLinked));
         assert_nearest(&words, [count, u32::MAX], Err(NotLinked));
+        assert_length(&words, 0, Err(NotLinked));
     }
 }
 
@@ -245,7 +310,7 @@ fn stored_words_are_looked_at() {
         words[at] = word;
         Linked::from_words(&words).is_err()
     };
-    assert!(altered(0, 2) && altered(1, 153) && altered(9, 9) && altered(9, 49));
+    assert!(altered(0, 1) && altered(0, 3) && altered(1, 153) && altered(9, 9) && altered(9, 49));
 }
 
 #[test]

@@ -89,6 +89,7 @@ agree-asked r m left leftAlso g = record {
   families = λ t a x y p q. p .answers ∙ g .families t a ∙ sym (q .answers);
   family = family-asked m left (g .family);
   familyAlso = family-asked (renumber r m) leftAlso (g .familyAlso);
+  lengths = λ t x y p q. p .answers ∙ g .lengths t ∙ sym (q .answers);
   canonical = g .canonical;
   hooks = g .hooks;
   catches = g .catches;

@@ -1,4 +1,4 @@
--- Demands 1 and 3 and the family, said of what calls of `load` and `descends` answer and write.
+-- Demands 1 and 3 and the family, said of what calls of `load`, `descends` and `chain_length` answer and write.
 use mathlib.Core.Path.{_≡_}
 use mathlib.Core.Logic.{_↔_}
 use mathlib.Core.Bool.{Bool, true, false}
@@ -20,6 +20,8 @@ use Rattle.parents.specs.Parents.{mostOnChain}
 use Rattle.spans.specs.Spans.{Descendant}
 use Rattle.table.specs.Table.{tableWords}
 use Rattle.descends.specs.Descends.{descends}
+use Rattle.descends.specs.declared.ChainLength.{ChainLength}
+use Rattle.descends.specs.Lengths.{chainLengthIn}
 use Rattle.load.specs.Load.{moduleFaults, longEnough, load, tableAfter, workAfter}
 use Rattle.law_linked.specs.Find.{hooksIn, canonIn, catchIn}
 use Rattle.renumber.specs.Renumber.{image, renumber, RenumberedSheet}
@@ -41,6 +43,10 @@ pub record LoadsNumbers (sheet hosts table work six left workLeft : List ℕ) : 
 -- x is answered: what `descends` of crate query and `paqlluri_descends` ensure, so each call of them gives one
 pub record Asks (table : List ℕ) (t a x : ℕ) : Type 0 where
   pub answers : x ≡ descends table t a
+
+-- x is answered: what `chain_length` of crate query ensures, so each call of it gives one
+pub record AsksLength (table : List ℕ) (t : ℕ) (x : ChainLength) : Type 0 where
+  pub answers : x ≡ chainLengthIn table t
 
 -- ── demand 1: refuses right ──
 
@@ -120,6 +126,8 @@ pub record AgreeAsked (r : List ℕ) (m : Module) (left leftAlso : List ℕ) : T
   pub families : (t a x y : ℕ) → Asks left t a x → Asks leftAlso (image r t) (image r a) y → x ≡ y
   pub family : FamilyAsked m left
   pub familyAlso : FamilyAsked (renumber r m) leftAlso
+  -- of all numbers, unknown ones too
+  pub lengths : (t : ℕ) (x y : ChainLength) → AsksLength left t x → AsksLength leftAlso (image r t) y → x ≡ y
   pub canonical : (t u : ℕ) → t < length (m .types) → u < length (m .types) →
       (canonIn left t ≡ canonIn left u) ↔ (canonIn leftAlso (image r t) ≡ canonIn leftAlso (image r u))
   pub hooks : hooksIn left ≡ hooksIn leftAlso

@@ -1,7 +1,9 @@
 // What is claimed of the calls is what their contracts say: each call of load is `Loads`, each family query is `Asks`, and so on.
-ghost use Rattle.calls.specs.Calls.{Loads, LoadsNumbers, Asks};
+ghost use Rattle.calls.specs.Calls.{Loads, LoadsNumbers, Asks, AsksLength};
 ghost use Rattle.family_calls.specs.FamilyCalls.{AsksSize, AsksSizeNumbers, CountsStructs, CountsNumbers};
+ghost use Rattle.family_calls.specs.LengthCalls.{AsksLengthNumbers};
 ghost use Rattle.family_calls.specs.NearestCalls.{AsksNearest, AsksNearestNumbers};
+use descends::ChainLength;
 use descends::FamilySize;
 use descends::NearestFamily;
 use error::Loaded;
@@ -9,11 +11,13 @@ use error::TypeId;
 use families::StructCount;
 use family_sheets::count_structs;
 use loader::load;
+use paqlluri::lengths::paqlluri_chain_length;
 use paqlluri::nearest::paqlluri_nearest;
 use paqlluri::paqlluri_count_structs;
 use paqlluri::paqlluri_descends;
 use paqlluri::paqlluri_family_size;
 use paqlluri::paqlluri_load;
+use query::chain_length;
 use query::descends;
 use query::family_size;
 use query_nearest::nearest;
@@ -35,6 +39,12 @@ pub fn ask_size(table: &[u32], a: TypeId) -> FamilySize
     ensures { λ r. ⌜ AsksSize (now (table .entry)) (a .0) r ⌝ }
 {
     family_size(table, a)
+}
+
+pub fn ask_length(table: &[u32], t: TypeId) -> ChainLength
+    ensures { λ r. ⌜ AsksLength (now (table .entry)) (t .0) r ⌝ }
+{
+    chain_length(table, t)
 }
 
 pub fn ask_nearest(table: &[u32], t: TypeId, u: TypeId) -> NearestFamily
@@ -73,6 +83,12 @@ pub fn ask_size_numbers(table: &[u32], a: u32, answer: &mut [u32; 2])
     ensures { λ r. ⌜ AsksSizeNumbers (now (table .entry)) a (now (answer .exit)) ⌝ }
 {
     paqlluri_family_size(table, a, answer);
+}
+
+pub fn ask_length_numbers(table: &[u32], t: u32, answer: &mut [u32; 2])
+    ensures { λ r. ⌜ AsksLengthNumbers (now (table .entry)) t (now (answer .exit)) ⌝ }
+{
+    paqlluri_chain_length(table, t, answer);
 }
 
 pub fn ask_nearest_numbers(table: &[u32], t: u32, u: u32, answer: &mut [u32; 2])

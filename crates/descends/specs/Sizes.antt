@@ -2,8 +2,7 @@
 use Prim.Native.Nat.{ℕ, _-_}
 use mathlib.Core.List.{List, [], _∷_}
 use mathlib.Core.Bool.{cond}
-use lib.Dec.{ltb}
-use Rattle.descends.specs.Descends.{notLinked, spanCount, isLinked, preIn, postIn}
+use Rattle.descends.specs.Descends.{notLinked, isLinked, preIn, postIn, ifKnown}
 use Rattle.descends.specs.declared.FamilySize.{FamilySize}
 use Rattle.descends.specs.declared.FamilySize.the-variants.{Size, NotLinked}
 
@@ -11,13 +10,9 @@ use Rattle.descends.specs.declared.FamilySize.the-variants.{Size, NotLin
 unfoldable pub widthIn : List ℕ → ℕ → ℕ
 widthIn ws a = postIn ws a - preIn ws a
 
--- a number that is no type has size 0
-unfoldable pub knownWidth : List ℕ → ℕ → ℕ
-knownWidth ws a = cond (ltb a (spanCount ws)) (widthIn ws a) 0
-
--- 25 first
+-- 25 first; a number that is no type has size 0
 unfoldable pub sizeIn : List ℕ → ℕ → FamilySize
-sizeIn ws a = cond (isLinked ws) (Size (knownWidth ws a)) NotLinked
+sizeIn ws a = cond (isLinked ws) (Size (ifKnown ws a (widthIn ws a))) NotLinked
 
 -- kind and size
 unfoldable pub sizeNumbers : FamilySize → List ℕ

@@ -8,7 +8,7 @@ use Rattle.sheet.specs.Module.{TypeDef, struct, coroutine, typeAt, kindWord, st
 use Rattle.lists.specs.Best.{winner, best}
 use Rattle.parents.specs.Forest.{structEntry, entryOf, entry, entryAt, parents, walk, chain, chainLength}
 use Rattle.families.specs.declared.StructCount.the-variants.{Structs}
-use Rattle.families.specs.Families.{isFrom, family, familySize, structCount, structNumbers}
+use Rattle.families.specs.Families.{isFrom, family, familySize, structCount, structNumbers, familyDepth}
 use Rattle.families.specs.Families.{commonFamilies, isDeeper, nearest, lastOf, rootOf, haveOneRoot}
 use Rattle.families.specs.Counted.{countedOf, countNumbers}
 
@@ -42,6 +42,12 @@ structs = (refl, refl)
 -- struct 0, its child 1, and below that 2 and 3
 abbrev tall : List TypeDef
 tall = child 0 ∷ child 1 ∷ child 2 ∷ child 2 ∷ []
+
+-- a root, its child and the child's child; no struct, no type
+depths : (familyDepth 256 tall 0 ≡ 1) × (familyDepth 256 tall 1 ≡ 2) × (familyDepth 256 tall 3 ≡ 3)
+    × (familyDepth 256 sample 3 ≡ 0) × (familyDepth 256 sample 5 ≡ 0)
+unfolding computed familyDepth chainLength
+depths = (refl, refl, refl, refl, refl)
 
 -- the longest chain, not the shortest; a parent, itself; roots that differ, no struct, no type
 nearests : (nearest 256 tall 2 3 ≡ some 1) × (nearest 256 tall 3 1 ≡ some 1) × (nearest 256 tall 0 2 ≡ some 0)

@@ -1,7 +1,8 @@
--- Families by declared parents: who descends from whom, how many do, and the nearest family of two. `most` is the most numbers on a chain.
+-- Families by declared parents: who descends from whom, how many do, how deep one is, and the nearest of two.
+-- `most` is the most numbers on a chain.
 use Prim.Native.Nat.{ℕ}
 use mathlib.Core.List.{List, [], _∷_}
-use mathlib.Core.Bool.{Bool, _&&_}
+use mathlib.Core.Bool.{Bool, cond, _&&_}
 use mathlib.Core.Option.{Option}
 use lib.Dec.{eqb, ltb}
 use lib.ListN.{length}
@@ -30,6 +31,12 @@ structCount types = length (keep isStruct types)
 -- their numbers, rising
 unfoldable pub structNumbers : List TypeDef → List ℕ
 structNumbers types = placesFrom 0 isStruct types
+
+-- ── how deep ──
+
+-- how many numbers the chain of a struct type has; 0 for what is none
+unfoldable pub familyDepth : ℕ → List TypeDef → ℕ → ℕ
+familyDepth most types t = cond (isStruct (typeAt types t)) (chainLength most types t) 0
 
 -- ── the nearest family ──
 

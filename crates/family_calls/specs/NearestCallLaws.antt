@@ -203,7 +203,7 @@ nearest-right sheet hosts table work l left workLeft m d c words b =
     subst (NearestAsked m) (sym (f .fronts))
     (nearest-left (k .hostList) m (drop l words) (sound sheet (k .hostList) m d (f .faultless)))
 
-accepted-long : (l : ℕ) → NotShort (Accepted l)
+pub accepted-long : (l : ℕ) → NotShort (Accepted l)
 unfolding NotShort
 accepted-long l e = let z : _≡_ {A = ℕ} 0 1 = cc in absurd (omega arith)
 

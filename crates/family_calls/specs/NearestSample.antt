@@ -34,23 +34,23 @@ told = (
 
 -- ── renumbered ──
 
-abbrev turn : List ℕ
+abbrev pub turn : List ℕ
 turn = 1 ∷ 2 ∷ 3 ∷ 0 ∷ 4 ∷ []
 
-abbrev turned : List ℕ
+abbrev pub turned : List ℕ
 turned = sheetOf (renumber turn small)
 
-abbrev wordsAlso : ℕ
+abbrev pub wordsAlso : ℕ
 wordsAlso = getD (numbers (load turned (hostsOf []) 500 500)) 2 0
 
-abbrev leftAlso : List ℕ
+abbrev pub leftAlso : List ℕ
 leftAlso = tableAfter turned (hostsOf []) slice slice
 
-pair : RenumberedSheet turn sheet turned
+pub pair : RenumberedSheet turn sheet turned
 unfolding everything
 pair = record { source = small; bytes = refl; intact = refl; renumbers = tt; written = refl }
 
-callingAlso : Loads turned (hostsOf []) slice slice (Accepted wordsAlso) leftAlso (workAfter turned (hostsOf []) slice slice)
+pub callingAlso : Loads turned (hostsOf []) slice slice (Accepted wordsAlso) leftAlso (workAfter turned (hostsOf []) slice slice)
 unfolding everything
 callingAlso = record { answers = refl; leaves = refl; clears = refl }
 

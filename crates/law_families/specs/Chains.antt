@@ -12,19 +12,8 @@ use Rattle.spans.specs.Spans.{Reaches, here, up}
 use Rattle.law_forest.specs.Entries.{isStructEntry, ends}
 use Rattle.law_forest.specs.Chain.{kind, chain-up, chain-stop, ends-up, ends-zero, ends-other, ends-struct, steps}
 use Rattle.law_forest.specs.Once.{ChainRule}
+use Rattle.law_forest.specs.Lengths.{chain-child, length-child}
 use Rattle.families.specs.Families.{lastOf, rootOf}
-
--- a chain that ends stays as it is with more room
-chain-more : (types : List TypeDef) (f t : ℕ) → T (ends types f t) → chain types f t ≡ chain types (suc f) t
-unfolding parents
-chain-more types zero t h = absurd (ends-zero types t h)
-chain-more types (suc f) t h = kind types t (chain types (suc f) t ≡ chain types (suc (suc f)) t)
-    (λ k. absurd (rw (ends-other types f t k) at h))
-    (λ k. chain-stop types f t (ap parents k) ∙ sym (chain-stop types (suc f) t (ap parents k)))
-    (λ p k.
-    chain-up types f t p k
-    ∙ ap (λ l. t ∷ l) (chain-more types f p (rw (ends-up types f t p k) at h))
-    ∙ sym (chain-up types (suc f) t p k))
 
 -- ── who reaches whom ──
 
@@ -43,7 +32,7 @@ reach-line types {t} {a} {b} (up k r) (up j s) = reach-line types r (subst (λ x
 
 module _ (most : ℕ) (types : List TypeDef) (rule : ChainRule most types) where
   -- a parent is a struct
-  parent-struct : (t p : ℕ) → entryAt types t ≡ sub p → T (isStructEntry (entryAt types p))
+  pub parent-struct : (t p : ℕ) → entryAt types t ≡ sub p → T (isStructEntry (entryAt types p))
   parent-struct t p k = go most (rule .short t (rw k tt))
     where
       go : (f : ℕ) → T (ends types f t) → T (isStructEntry (entryAt types p))
@@ -56,22 +45,10 @@ module _ (most : ℕ) (types : List TypeDef) (rule : ChainRule most types) where
 
   -- ── how long ──
 
-  -- the chain from a child is the child and the chain from its parent
-  chain-child : (t p : ℕ) → entryAt types t ≡ sub p → chain types most t ≡ t ∷ chain types most p
-  chain-child t p k = go most (rule .short t (rw k tt))
-    where
-      go : (f : ℕ) → T (ends types f t) → chain types f t ≡ t ∷ chain types f p
-      go zero h = absurd (ends-zero types t h)
-      go (suc f) h = chain-up types f t p k ∙ ap (λ l. t ∷ l) (chain-more types f p (rw (ends-up types f t p k) at h))
-
-  length-child : (t p : ℕ) → entryAt types t ≡ sub p → chainLength most types t ≡ suc (chainLength most types p)
-  unfolding chainLength
-  length-child t p k = ap length (chain-child t p k)
-
   -- so many steps up, so much shorter
   length-steps : {t a : ℕ} (r : Reaches types t a) → chainLength most types t ≡ steps r + chainLength most types a
   length-steps (here {t} {a} q) = ap (chainLength most types) q ∙ omega arith
-  length-steps (up {t} {p} k r) = length-child t p k ∙ omega (arith, length-steps r)
+  length-steps (up {t} {p} k r) = length-child most types rule t p k ∙ omega (arith, length-steps r)
 
   no-steps : {t a : ℕ} (r : Reaches types t a) → steps r ≡ 0 → t ≡ a
   no-steps (here q) e = q
@@ -104,7 +81,7 @@ module _ (most : ℕ) (types : List TypeDef) (rule : ChainRule most types) where
 
   root-child : (t p : ℕ) → entryAt types t ≡ sub p → rootOf most types t ≡ rootOf most types p
   unfolding rootOf lastOf
-  root-child t p k = ap (lastOf t) (chain-child t p k) ∙ chain-first most t p (rule .short p (parent-struct t p k))
+  root-child t p k = ap (lastOf t) (chain-child most types rule t p k) ∙ chain-first most t p (rule .short p (parent-struct t p k))
 
   pub reach-root : {t a : ℕ} → Reaches types t a → rootOf most types t ≡ rootOf most types a
   reach-root (here q) = ap (rootOf most types) q

@@ -1,4 +1,5 @@
 pub mod Ancestors
 pub mod Chains
 pub mod FamilyLaws
+pub mod Depths
 pub mod NearestLaws

@@ -8,16 +8,19 @@ use native.Mathlib.Decide.{decLt}
 use lib.Dec.{eqb, leb, ltb}
 use borrow.Author.Tests.{lt-ltb, le-ltb, le-leb}
 use lib.ListN.{length, getD, length-append}
-use Rattle.lists.specs.ListLaws.{T-of, both, and-false, getD-concatMapFrom}
-use Rattle.table.specs.TableLaws.{span-two, spanSection-length}
+use Rattle.lists.specs.ListLaws.{T-of, both, and-false}
+use Rattle.table.specs.TableLaws.{span-at, spanSection-length}
 use Rattle.reader.specs.Reader.{encodeList}
-use Rattle.sheet.specs.Module.{TypeDef, coroutine, Module, typeAt, isStruct}
+use Rattle.sheet.specs.Module.{Module, typeAt, isStruct}
 use Rattle.host.specs.Host.{HostFn}
+use Rattle.parents.specs.Forest.{chainLength}
 use Rattle.parents.specs.Parents.{parentsFaults}
-use Rattle.spans.specs.Spans.{pre, post, noPre, spanOf, spans, descendsBySpan}
+use Rattle.spans.specs.Spans.{pre, post, noPre, spanOf, descendsBySpan}
 use Rattle.table.specs.Records.{typeRecord, funcRecord, importRecord}
 use Rattle.table.specs.Table.{tableEdition, headerWords, hookSection, canonSection, globalSection, referenceSection, spanSection, sections, joined, tableWords}
-use Rattle.descends.specs.Descends.{notLinked, tableLength, spansStart, spanCount, spansEnd, isLinked, preIn, postIn, isWithin, descends}
+use Rattle.descends.specs.Descends.{notLinked, tableLength, spansStart, spanCount, spansEnd, isLinked}
+use Rattle.descends.specs.Descends.{preIn, postIn, lengthIn, ifKnown, isWithin, descends}
+use Rattle.descends.specs.DescendsLaws.{known-is, unknown-is}
 use Rattle.sheet.specs.TypeLaws.{struct-known}
 use Rattle.law_forest.specs.Accepted.{span-fits}
 use Rattle.law_linked.specs.Sections.{bodyOf, body-last, table-length, joined-length, start-word, section-word}
@@ -29,15 +32,6 @@ no-second p q r s e = ap (λ (x : Bool). p && x && r && s) e ∙ ap (λ (x : Boo
 
 no-last : (p q r s : Bool) → s ≡ false → p && q && r && s ≡ false
 no-last p q r s e = ap (λ (x : Bool). p && q && r && x) e ∙ and-false (p && q && r)
-
--- ── the spans ──
-
-module _ (most : ℕ) (types : List TypeDef) where
-  span-at : (t j : ℕ) → t < length types → j < 2 → getD (spans most types) (2 * t + j) 0 ≡ getD (spanOf most types t (isStruct (typeAt types t))) j 0
-  unfolding spans typeAt
-  span-at t j h l =
-      getD-concatMapFrom (λ t d. spanOf most types t (isStruct d)) 2 (λ t d. span-two most types t (isStruct d)) 0 types t j coroutine 0 h l
-      ∙ ap (λ (n : ℕ). getD (spanOf most types n (isStruct (typeAt types t))) j 0) (omega arith)
 
 -- ── the table ──
 
@@ -61,7 +55,8 @@ module _ (most : ℕ) (hosts : List HostFn) (m : Module) (rest : List ℕ) where
   unfolding spansStart tableWords sections
   spans-start = start-word earlier (spanSection most m) [] refl rest
 
-  span-word : (i : ℕ) → i < 1 + 2 * length (m .types) → getD left (headerWords + length (bodyOf earlier) + i) 0 ≡ getD (spanSection most m) i 0
+  span-word : (i : ℕ) → i < 1 + 3 * length (m .types) →
+      getD left (headerWords + length (bodyOf earlier) + i) 0 ≡ getD (spanSection most m) i 0
   unfolding tableWords sections
   span-word i h = section-word earlier (spanSection most m) [] refl rest i (omega (arith, spanSection-length most m))
 
@@ -69,7 +64,7 @@ module _ (most : ℕ) (hosts : List HostFn) (m : Module) (rest : List ℕ) where
   unfolding spanCount spanSection
   span-count = ap (λ (k : ℕ). getD left k 0) (spans-start ∙ omega arith) ∙ span-word 0 (omega arith)
 
-  whole-length : headerWords + length (bodyOf (sections most hosts m)) ≡ headerWords + length (bodyOf earlier) + 1 + 2 * length (m .types)
+  whole-length : headerWords + length (bodyOf (sections most hosts m)) ≡ headerWords + length (bodyOf earlier) + 1 + 3 * length (m .types)
   unfolding sections
   whole-length = ap (λ (k : ℕ). headerWords + k) (body-last earlier (spanSection most m)) ∙ omega (arith, spanSection-length most m)
 
@@ -99,11 +94,12 @@ module _ (most : ℕ) (hosts : List HostFn) (m : Module) (rest : List ℕ) where
       (le-leb headerWords (spansStart left) (omega (arith, spans-start))))
       (le-leb (spansEnd left) (tableLength left) (omega (arith, spans-end)))
 
-  span-word-at : (t j : ℕ) → t < length (m .types) → j < 2 → getD left (spansStart left + 1 + 2 * t + j) 0 ≡ getD (spanOf most (m .types) t (isStruct (typeAt (m .types) t))) j 0
+  span-word-at : (t j : ℕ) → t < length (m .types) → j < 3 →
+      getD left (spansStart left + 1 + 3 * t + j) 0 ≡ getD (spanOf most (m .types) t (isStruct (typeAt (m .types) t))) j 0
   unfolding spanSection
   span-word-at t j h l =
       ap (λ (k : ℕ). getD left k 0) (omega (arith, spans-start))
-      ∙ span-word (suc (2 * t + j)) (omega arith)
+      ∙ span-word (suc (3 * t + j)) (omega arith)
       ∙ span-at most (m .types) t j h l
 
   pre-word : (t : ℕ) → t < length (m .types) → preIn left t ≡ getD (spanOf most (m .types) t (isStruct (typeAt (m .types) t))) 0 0
@@ -113,6 +109,30 @@ module _ (most : ℕ) (hosts : List HostFn) (m : Module) (rest : List ℕ) where
   post-word : (t : ℕ) → t < length (m .types) → postIn left t ≡ getD (spanOf most (m .types) t (isStruct (typeAt (m .types) t))) 1 0
   unfolding postIn
   post-word t h = ap (λ (k : ℕ). getD left k 0) (omega arith) ∙ span-word-at t 1 h (omega arith)
+
+  length-word : (t : ℕ) → t < length (m .types) → lengthIn left t ≡ getD (spanOf most (m .types) t (isStruct (typeAt (m .types) t))) 2 0
+  unfolding lengthIn
+  length-word t h = ap (λ (k : ℕ). getD left k 0) (omega arith) ∙ span-word-at t 2 h (omega arith)
+
+  pub struct-length : (t : ℕ) → isStruct (typeAt (m .types) t) ≡ true → lengthIn left t ≡ chainLength most (m .types) t
+  unfolding spanOf
+  struct-length t s = length-word t (struct-known (m .types) t s) ∙ ap (λ (b : Bool). getD (spanOf most (m .types) t b) 2 0) s
+
+  pub other-length : (t : ℕ) → t < length (m .types) → isStruct (typeAt (m .types) t) ≡ false → lengthIn left t ≡ 0
+  unfolding spanOf
+  other-length t h s = length-word t h ∙ ap (λ (b : Bool). getD (spanOf most (m .types) t b) 2 0) s
+
+  -- a value that stands for each struct type, and 0 for any other number
+  pub known-value : (t x y : ℕ) → (isStruct (typeAt (m .types) t) ≡ true → x ≡ y) →
+      (t < length (m .types) → isStruct (typeAt (m .types) t) ≡ false → x ≡ 0) → (isStruct (typeAt (m .types) t) ≡ false → y ≡ 0) →
+      ifKnown left t x ≡ y
+  known-value t x y f g h = go (decLt t (length (m .types))) (isStruct (typeAt (m .types) t)) refl
+    where
+      go : Dec (t < length (m .types)) → (b : Bool) → isStruct (typeAt (m .types) t) ≡ b → ifKnown left t x ≡ y
+      go (yes k) true s = sym (known-is left t x (sym span-count) k) ∙ f s
+      go (yes k) false s = sym (known-is left t x (sym span-count) k) ∙ g k s ∙ sym (h s)
+      go (no k) true s = absurd (k (struct-known (m .types) t s))
+      go (no k) false s = sym (unknown-is left t x (sym span-count) (omega arith)) ∙ sym (h s)
 
   -- ── the answer ──
 

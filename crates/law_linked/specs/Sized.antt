@@ -1,27 +1,25 @@
 -- On the words that load left, a span is as wide as its family is large.
 use Prim.Native.Nat.{ℕ, _-_, _≤_, _<_}
-use mathlib.Core.Path.{_≡_, refl, sym, ap, ap₂, _∙_}
+use mathlib.Core.Path.{_≡_, ap, ap₂, _∙_}
 use mathlib.Core.List.{List, [], _++_}
-use mathlib.Core.Bool.{Bool, true, false, cond}
+use mathlib.Core.Bool.{false, cond}
 use native.Mathlib.Omega.{arith}
-use lib.Dec.{T, ltb}
+use lib.Dec.{T}
 use lib.ListN.{length}
-use borrow.Author.Tests.{ltb-true, ltb-false}
 use Rattle.lists.specs.ListLaws.{T-true, T-of}
 use Rattle.sheet.specs.Module.{Module, typeAt, isStruct}
-use Rattle.sheet.specs.TypeLaws.{struct-known}
 use Rattle.host.specs.Host.{HostFn}
 use Rattle.parents.specs.Parents.{parentsFaults}
 use Rattle.spans.specs.Spans.{noPre}
 use Rattle.table.specs.Table.{tableWords}
-use Rattle.descends.specs.Descends.{spanCount, descends}
+use Rattle.descends.specs.Descends.{ifKnown, descends}
 use Rattle.descends.specs.declared.FamilySize.the-variants.{Size, NotLinked}
-use Rattle.descends.specs.Sizes.{widthIn, knownWidth, sizeIn}
+use Rattle.descends.specs.Sizes.{widthIn, sizeIn}
 use Rattle.families.specs.Families.{isFrom, familySize}
 use Rattle.law_forest.specs.Once.{ChainRule}
 use Rattle.law_forest.specs.Accepted.{chain-rule}
 use Rattle.law_families.specs.FamilyLaws.{from-spans, size-span, size-none}
-use Rattle.law_linked.specs.Answers.{linked, answered, span-count, struct-pre, struct-post, other-post}
+use Rattle.law_linked.specs.Answers.{linked, answered, known-value, struct-pre, struct-post, other-post}
 
 module _ (most : ℕ) (hosts : List HostFn) (m : Module) (rest : List ℕ) (kept : parentsFaults most m ≡ []) (one : 1 ≤ most)
     (few : length (m .types) ≤ noPre) where
@@ -47,20 +45,14 @@ module _ (most : ℕ) (hosts : List HostFn) (m : Module) (rest : List ℕ) (kept
   unfolding widthIn
   other-width a h s = omega (arith, other-post most hosts m rest kept one few a h s)
 
-  known-is-size : (a : ℕ) → knownWidth left a ≡ familySize most (m .types) a
-  unfolding knownWidth
-  known-is-size a = go (ltb a (spanCount left)) refl (isStruct (typeAt (m .types) a)) refl
-    where
-      go : (b : Bool) → ltb a (spanCount left) ≡ b → (c : Bool) → isStruct (typeAt (m .types) a) ≡ c →
-          cond (ltb a (spanCount left)) (widthIn left a) 0 ≡ familySize most (m .types) a
-      go true e true s = rw e (width-is-size a (T-of (isStruct (typeAt (m .types) a)) s))
-      go true e false s = rw e
-          (other-width a (omega (arith, ltb-true a (spanCount left) e, span-count most hosts m rest)) s
-          ∙ sym (size-none most (m .types) rule a s))
-      go false e true s = absurd (omega (arith, ltb-false a (spanCount left) e, span-count most hosts m rest, struct-known (m .types) a s))
-      go false e false s = rw e (sym (size-none most (m .types) rule a s))
+  known-is-size : (a : ℕ) → ifKnown left a (widthIn left a) ≡ familySize most (m .types) a
+  known-is-size a =
+      known-value most hosts m rest a (widthIn left a) (familySize most (m .types) a)
+      (λ s. width-is-size a (T-of (isStruct (typeAt (m .types) a)) s)) (other-width a) (size-none most (m .types) rule a)
 
   -- every number has its family's size: what is no struct or no type has none
   pub size-answered : (a : ℕ) → sizeIn left a ≡ Size (familySize most (m .types) a)
   unfolding sizeIn
-  size-answered a = ap (λ b. cond b (Size (knownWidth left a)) NotLinked) (linked most hosts m rest) ∙ ap Size (known-is-size a)
+  size-answered a =
+      ap (λ b. cond b (Size (ifKnown left a (widthIn left a))) NotLinked) (linked most hosts m rest)
+      ∙ ap Size (known-is-size a)

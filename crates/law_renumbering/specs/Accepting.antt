@@ -19,6 +19,9 @@ use Rattle.parents.specs.Parents.{mostOnChain}
 use Rattle.spans.specs.Spans.{noPre, descendsBySpan}
 use Rattle.table.specs.Table.{hookSection, tableWords}
 use Rattle.descends.specs.Descends.{descends}
+use Rattle.descends.specs.declared.ChainLength.the-variants.{Length}
+use Rattle.descends.specs.Lengths.{chainLengthIn}
+use Rattle.families.specs.Families.{familyDepth}
 use Rattle.load.specs.Load.{moduleFaults, longEnough, Opened, withHosts, opening, answer, load, linkedOver, tableThen, tableAfter}
 use Rattle.law_forest.specs.Accepted.{families}
 use Rattle.sheet.specs.DecodedLaws.{decoded-few}
@@ -26,6 +29,7 @@ use Rattle.canon.specs.Canon.{canonType}
 use Rattle.code.specs.Callee.{funcAt}
 use Rattle.table.specs.Records.{catchTable}
 use Rattle.law_linked.specs.Answers.{answered}
+use Rattle.law_linked.specs.Lengths.{length-answered}
 use Rattle.law_linked.specs.Find.{hooksIn, canonIn, catchIn}
 use Rattle.law_linked.specs.Found.{hooks-found, canon-found, catch-found}
 use Rattle.law_renumbering.specs.AllRules.{parents-kept}
@@ -97,7 +101,7 @@ room-long hosts c h e = subst T (((short-slice (c .sheet) hosts (length (c .tabl
 
 -- ── the family query on what load left ──
 
-cond-one : (b : Bool) → _≡_ {A = ℕ} (cond b 1 0) 1 → T b
+pub cond-one : (b : Bool) → _≡_ {A = ℕ} (cond b 1 0) 1 → T b
 cond-one true e = tt
 cond-one false e = omega arith
 
@@ -135,14 +139,16 @@ family-left hosts c m intact h =
 
 -- ── what is found in what load left ──
 
--- the words that are read as hooks, canonical numbers and catch tables are those
+-- the words that are read as chain lengths, hooks, canonical numbers and catch tables are those
 pub record Holds (m : Module) (table : List ℕ) : Type 0 where
+  pub lengths : (t : ℕ) → chainLengthIn table t ≡ Length (familyDepth mostOnChain (m .types) t)
   pub hooks : hooksIn table ≡ hookSection m
   pub canonical : (t : ℕ) → t < length (m .types) → canonIn table t ≡ canonType (m .types) t
   pub catches : (f : ℕ) → f < length (m .funcs) → catchIn table f ≡ catchTable (funcAt m f)
 
 pub holds-front : (hs : List HostFn) (m : Module) (rest : List ℕ) → Holds m (tableWords mostOnChain hs m ++ rest)
 holds-front hs m rest = record {
+  lengths = length-answered mostOnChain hs m rest;
   hooks = hooks-found mostOnChain hs m rest;
   canonical = canon-found mostOnChain hs m rest;
   catches = catch-found mostOnChain hs m rest;

@@ -1,13 +1,17 @@
--- Families under a renumbering.
-use mathlib.Core.Path.{_≡_, sym, ap, _∙_, subst, subst₂}
+-- Families and chains under a renumbering.
+use mathlib.Core.Path.{_≡_, refl, sym, ap, ap₂, _∙_, subst, subst₂}
 use mathlib.Core.Logic.{_↔_}
-use mathlib.Core.List.{List}
-use Prim.Native.Nat.{ℕ}
+use mathlib.Core.Bool.{cond}
+use mathlib.Core.List.{List, []}
+use Prim.Native.Nat.{ℕ, zero, suc}
 use native.Mathlib.Omega.{arith}
 use lib.Dec.{T}
+use lib.ListN.{length}
 use Rattle.sheet.specs.Module.{TypeDef}
-use Rattle.parents.specs.Forest.{Entry, other, root, sub, entryAt}
+use Rattle.parents.specs.Forest.{Entry, other, root, sub, entryAt, parents, walk, chain, chainLength}
 use Rattle.spans.specs.Spans.{Reaches, here, up, Descendant}
+use Rattle.families.specs.Families.{familyDepth}
+use Rattle.law_forest.specs.Chain.{kind, chain-up, chain-stop}
 use Rattle.law_renumbering.specs.Images.{rename}
 use Rattle.law_renumbering.specs.CanonMoved.{Moved, struct-moved}
 use Rattle.law_renumbering.specs.Setting.{entry-moved}
@@ -28,6 +32,26 @@ module _ {types types′ : List TypeDef} {π ρ : ℕ → ℕ} (w : Moved types 
   reaches-back : {t a : ℕ} → Reaches types′ t a → Reaches types (ρ t) (ρ a)
   reaches-back (here q) = here (ap ρ q)
   reaches-back (up {t} {p} h c) = up (entry-back t p h) (reaches-back c)
+
+  -- a chain is as long
+  pub chain-moved : (f t : ℕ) → length (chain types f t) ≡ length (chain types′ f (π t))
+  unfolding parents chain walk
+  chain-moved zero t = refl
+  chain-moved (suc f) t = kind types t (length (chain types (suc f) t) ≡ length (chain types′ (suc f) (π t)))
+      (λ k. stops (ap parents k) (ap parents (entry-moved w t ∙ ap (rename π) k)))
+      (λ k. stops (ap parents k) (ap parents (entry-moved w t ∙ ap (rename π) k)))
+      (λ p k.
+      ap length (chain-up types f t p k)
+      ∙ ap suc (chain-moved f p)
+      ∙ sym (ap length (chain-up types′ f (π t) (π p) (entry-moved w t ∙ ap (rename π) k))))
+    where
+      stops : parents (entryAt types t) ≡ [] → parents (entryAt types′ (π t)) ≡ [] →
+          length (chain types (suc f) t) ≡ length (chain types′ (suc f) (π t))
+      stops a b = ap length (chain-stop types f t a) ∙ sym (ap length (chain-stop types′ f (π t) b))
+
+  pub depth-moved : (most t : ℕ) → familyDepth most types t ≡ familyDepth most types′ (π t)
+  unfolding familyDepth chainLength
+  depth-moved most t = ap₂ (λ b n. cond b n 0) (sym (struct-moved w t)) (chain-moved most t)
 
   pub reaches-moved : (t a : ℕ) → Reaches types t a ↔ Reaches types′ (π t) (π a)
   reaches-moved t a = (reaches-there, λ c. subst₂ (Reaches types) (w .bijection .back t) (w .bijection .back a) (reaches-back c))

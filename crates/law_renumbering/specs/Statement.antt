@@ -16,6 +16,7 @@ use Rattle.sheet.specs.Module.{Module}
 use Rattle.sheet.specs.Decode.{decode}
 use Rattle.spans.specs.Spans.{Descendant}
 use Rattle.descends.specs.Descends.{descends}
+use Rattle.descends.specs.Lengths.{chainLengthIn}
 use Rattle.load.specs.Load.{longEnough, load, tableAfter}
 use Rattle.law_linked.specs.Find.{hooksIn, canonIn, catchIn}
 use Rattle.renumber.specs.Renumber.{isRenumbering, image, renumber}
@@ -70,6 +71,8 @@ pub record Agree (r : List ℕ) (m : Module) (left leftAlso : List ℕ) : Type 0
   -- what the query says: yes just where both are structs, and declared parents lead from t to a
   pub family : Family m left
   pub familyAlso : Family (renumber r m) leftAlso
+  -- of all numbers, unknown ones too
+  pub lengths : (t : ℕ) → chainLengthIn left t ≡ chainLengthIn leftAlso (image r t)
   pub canonical : (t u : ℕ) → t < length (m .types) → u < length (m .types) →
       (canonIn left t ≡ canonIn left u) ↔ (canonIn leftAlso (image r t) ≡ canonIn leftAlso (image r u))
   pub hooks : hooksIn left ≡ hooksIn leftAlso

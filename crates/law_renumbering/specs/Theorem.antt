@@ -17,6 +17,8 @@ use Rattle.code.specs.Callee.{funcAt}
 use Rattle.table.specs.Records.{catchTable}
 use Rattle.table.specs.Table.{hookSection, tableWords}
 use Rattle.descends.specs.Descends.{descends}
+use Rattle.descends.specs.declared.ChainLength.the-variants.{Length}
+use Rattle.descends.specs.Lengths.{chainLengthIn}
 use Rattle.load.specs.Load.{moduleFaults}
 use Rattle.law_faults.specs.Together.{Together}
 use Rattle.sheet.specs.DecodedLaws.{Coded, decoded}
@@ -27,7 +29,7 @@ use Rattle.law_renumbering.specs.CanonMoved.{canon-moved}
 use Rattle.law_renumbering.specs.Setting.{moved}
 use Rattle.law_renumbering.specs.CodeRules.{func-known}
 use Rattle.law_renumbering.specs.AllRules.{rules-together}
-use Rattle.law_renumbering.specs.FamilyMoved.{descendant-moved}
+use Rattle.law_renumbering.specs.FamilyMoved.{descendant-moved, depth-moved}
 use Rattle.law_renumbering.specs.Accepting.{accepted-opening, opening-accepted, family-front, types-few}
 use Rattle.law_renumbering.specs.Accepting.{family-left, Holds, holds-front, holds-left}
 use Rattle.law_renumbering.specs.Statement.{Family, Call, LongEnough, accepts, leaves, Renumbered, Agree, Outcome}
@@ -64,6 +66,10 @@ module _ (r : List ℕ) (m : Module) (l : Listed (length (m .types)) r) (left le
           f .no t a k ∙ sym (g .no (image r t) (image r a) (λ h. k (d .1 h)))
 
 module _ (r : List ℕ) (m : Module) (l : Listed (length (m .types)) r) (left leftAlso : List ℕ) (h : Holds m left) (k : Holds (renumber r m) leftAlso) where
+  lengths-same : (t : ℕ) → chainLengthIn left t ≡ chainLengthIn leftAlso (image r t)
+  unfolding renumber
+  lengths-same t = h .lengths t ∙ ap Length (depth-moved (moved r m l) mostOnChain t) ∙ sym (k .lengths (image r t))
+
   hooks-same : hooksIn left ≡ hooksIn leftAlso
   hooks-same = h .hooks ∙ hooks-image r m ∙ sym (k .hooks)
 
@@ -90,6 +96,7 @@ agree-of r m l good left leftAlso f g h k = record {
   families = families-same r m l left leftAlso f g;
   family = f;
   familyAlso = g;
+  lengths = lengths-same r m l left leftAlso h k;
   canonical = canon-same r m l left leftAlso h k good;
   hooks = hooks-same r m l left leftAlso h k;
   catches = catches-same r m l left leftAlso h k;

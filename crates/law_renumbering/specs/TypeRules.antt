@@ -14,9 +14,8 @@ use Rattle.error.specs.declared.LoadErrorKind.the-variants.{BadSignature, BadPa
 use Rattle.error.specs.Answer.{inModule, inRange}
 use Rattle.sheet.specs.Module.{ValueType, basic, ref, Method, Struct, Sig, TypeDef, func, struct, cell, iter, coroutine, Module, typeAt, structOf}
 use Rattle.types.specs.Types.{namedSlots, valueFaults, stringFaults, functionFaults, methodFaults, structFaults, sigFaults, typeFaults, typesFaults}
-use Rattle.parents.specs.Forest.{Entry, other, root, sub, entry, entryAt, parents, walk, chain}
+use Rattle.parents.specs.Forest.{Entry, other, root, sub, entry, entryAt}
 use Rattle.parents.specs.Parents.{fieldWords, fieldsFirst, shortChain, childFaults, parentFaults, parentsFaults}
-use Rattle.law_forest.specs.Chain.{kind, chain-up, chain-stop}
 use Rattle.sheet.specs.Coded.{codedField, codedType}
 use Rattle.sheet.specs.DecodedLaws.{Coded}
 use Rattle.renumber.specs.Renumber.{image, valueImage, fieldImage, structImage, sigImage, typeImage, typesImage, renumber}
@@ -24,6 +23,7 @@ use Rattle.law_renumbering.specs.Bijection.{Listed}
 use Rattle.law_renumbering.specs.Images.{maybeStruct, struct-image, fields-front, rename}
 use Rattle.sheet.specs.TypeLaws.{good-at}
 use Rattle.law_renumbering.specs.CanonMoved.{Moved, struct-moved}
+use Rattle.law_renumbering.specs.FamilyMoved.{chain-moved}
 use Rattle.law_renumbering.specs.Setting.{moved, range-moved, entry-moved, together-moved, together-moved-from}
 
 -- ── rule 2 ──
@@ -119,17 +119,9 @@ module _ {types types′ : List TypeDef} {π ρ : ℕ → ℕ} (w : Moved types 
       ∙ front-option π ρ (w .bijection .back) (structOf (typeAt types p)) (structOf (typeAt types t))
       (good-struct (typeAt types p) (good-at types good p)) (good-struct (typeAt types t) (good-at types good t)))
 
-  chain-moved : (f t : ℕ) → length (chain types f t) ≡ length (chain types′ f (π t))
-  unfolding parents chain walk
-  chain-moved zero t = refl
-  chain-moved (suc f) t = kind types t (length (chain types (suc f) t) ≡ length (chain types′ (suc f) (π t)))
-      (λ k. ap length (chain-stop types f t (ap parents k)) ∙ sym (ap length (chain-stop types′ f (π t) (ap parents (entry-moved w t ∙ ap (rename π) k)))))
-      (λ k. ap length (chain-stop types f t (ap parents k)) ∙ sym (ap length (chain-stop types′ f (π t) (ap parents (entry-moved w t ∙ ap (rename π) k)))))
-      (λ p k. ap length (chain-up types f t p k) ∙ ap suc (chain-moved f p) ∙ sym (ap length (chain-up types′ f (π t) (π p) (entry-moved w t ∙ ap (rename π) k))))
-
   short-moved : (most t : ℕ) → shortChain most types t ≡ shortChain most types′ (π t)
   unfolding shortChain
-  short-moved most t = ap (λ (k : ℕ). leb k most) (chain-moved (suc most) t)
+  short-moved most t = ap (λ (k : ℕ). leb k most) (chain-moved w (suc most) t)
 
   child-together : (most t p : ℕ) → Together (childFaults most types t p) (childFaults most types′ (π t) (π p))
   unfolding childFaults

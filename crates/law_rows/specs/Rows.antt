@@ -136,7 +136,7 @@ unfoldable pub rows : List (List ℕ × List ℕ)
 rows =
     (answerTo emptySheet, 0 ∷ 0 ∷ 49 ∷ 0 ∷ 0 ∷ 0 ∷ [])
     ∷ (sheetOf emptyModule, emptySheet)
-    ∷ (spansOf twoUnderOne, 3 ∷ 1 ∷ 2 ∷ 2 ∷ 3 ∷ 0 ∷ 3 ∷ [])
+    ∷ (spansOf twoUnderOne, 3 ∷ 1 ∷ 2 ∷ 2 ∷ 2 ∷ 3 ∷ 2 ∷ 0 ∷ 3 ∷ 1 ∷ [])
     ∷ (kindOf (ofTypes twoUnderOne), passes)
     ∷ (answerOf (ofTypes (child 1 ∷ [])), refusal 17)
     ∷ (canonSection (ofTypes (coroutine ∷ coroutine ∷ TypeDef.array (ref 0) ∷ TypeDef.array (ref 1) ∷ [])), 4 ∷ 0 ∷ 0 ∷ 2 ∷ 3 ∷ [])

@@ -5,6 +5,10 @@ use Prim.Native.Nat.{ℕ}
 use Rattle.descends.specs.declared.FamilySize.{FamilySize}
 use Rattle.descends.specs.declared.FamilySize.the-variants.{Size, NotLinked}
 use Rattle.descends.specs.Sizes.{sizeIn, sizeNumbers}
+use Rattle.descends.specs.declared.ChainLength.{ChainLength}
+use Rattle.descends.specs.declared.ChainLength.the-variants.{Length}
+use Rattle.descends.specs.declared.ChainLength.the-variants as len
+use Rattle.descends.specs.Lengths.{chainLengthIn, lengthNumbers}
 use Rattle.descends.specs.declared.NearestFamily.{NearestFamily}
 use Rattle.descends.specs.declared.NearestFamily.the-variants.{Found, NoFamily}
 use Rattle.descends.specs.declared.NearestFamily.the-variants as near
@@ -24,6 +28,17 @@ module _ (ws : List ℕ) (a : ℕ) {x : FamilySize} (e : x ≡ sizeIn ws a) wher
   size-unlinked q = ap sizeNumbers (sym q ∙ e)
 
 pub ruleset sizes = (size-told, size-unlinked)
+
+module _ (ws : List ℕ) (t : ℕ) {x : ChainLength} (e : x ≡ chainLengthIn ws t) where
+  pub length-told : {n : ℕ} → x ≡ Length n → 0 ∷ n ∷ [] ≡ lengthNumbers (chainLengthIn ws t)
+  unfolding lengthNumbers
+  length-told q = ap lengthNumbers (sym q ∙ e)
+
+  pub length-unlinked : x ≡ len.NotLinked → 25 ∷ 0 ∷ [] ≡ lengthNumbers (chainLengthIn ws t)
+  unfolding lengthNumbers
+  length-unlinked q = ap lengthNumbers (sym q ∙ e)
+
+pub ruleset lengths = (length-told, length-unlinked)
 
 module _ (ws : List ℕ) (t u : ℕ) {x : NearestFamily} (e : x ≡ nearestIn ws t u) where
   pub found-told : {f : TypeId} → x ≡ Found f → 0 ∷ f .0 ∷ [] ≡ nearestNumbers (nearestIn ws t u)

@@ -11,6 +11,7 @@ use error::TypeId;
 use error::numbers::numbers;
 use families::StructCount;
 
+pub mod lengths;
 pub mod nearest;
 
 // Loads a sheet under a host list; answers the six numbers.

@@ -1,2 +1,3 @@
 pub mod QuerySteps
 pub mod SizeSteps
+pub mod LengthSteps

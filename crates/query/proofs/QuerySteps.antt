@@ -41,7 +41,7 @@ module _ (ws : List ℕ) where
   A = leb 10 (length ws)
 
   abbrev B : Bool
-  B = eqb (getD ws 0 0) 1
+  B = eqb (getD ws 0 0) 2
 
   abbrev C : Bool
   C = leb (getD ws 1 0) (length ws)
@@ -49,8 +49,12 @@ module _ (ws : List ℕ) where
   abbrev D : Bool
   D = leb 10 (getD ws 9 0)
 
+  -- where the spans end
+  abbrev behind : ℕ
+  behind = getD ws 9 0 + 1 + 3 * getD ws (getD ws 9 0) 0
+
   abbrev E : Bool
-  E = leb (getD ws 9 0 + 1 + 2 * getD ws (getD ws 9 0) 0) (getD ws 1 0)
+  E = leb behind (getD ws 1 0)
 
   -- five tests, one after the other
   five : isLinked ws ≡ (A && B && C && D && E)
@@ -60,8 +64,8 @@ module _ (ws : List ℕ) where
   pub few : length ws < 10 → false ≡ isLinked ws
   few h = sym (five ∙ ap (λ x. x && B && C && D && E) (lt-leb 10 (length ws) h))
 
-  pub other-edition : {x : ℕ} → x ≡ getD ws 0 0 → (x ≡ 1 → ⊥) → false ≡ isLinked ws
-  other-edition {x} e h = sym (five ∙ ap (λ x. A && x && C && D && E) (ne-eqb (getD ws 0 0) 1 (λ z. h (e ∙ z))) ∙ row-2 A C D E)
+  pub other-edition : {x : ℕ} → x ≡ getD ws 0 0 → (x ≡ 2 → ⊥) → false ≡ isLinked ws
+  other-edition {x} e h = sym (five ∙ ap (λ x. A && x && C && D && E) (ne-eqb (getD ws 0 0) 2 (λ z. h (e ∙ z))) ∙ row-2 A C D E)
 
   module _ {end start : ℕ} (e : end ≡ getD ws 1 0) (s : start ≡ getD ws 9 0) where
     pub long : length ws < end → false ≡ isLinked ws
@@ -71,24 +75,24 @@ module _ (ws : List ℕ) where
     early h = sym (five ∙ ap (λ x. A && B && C && x && E) (lt-leb 10 (getD ws 9 0) (omega (arith, s))) ∙ row-4 A B C E)
 
     pub past : end ≤ start → false ≡ isLinked ws
-    past h = sym (five ∙ ap (λ x. A && B && C && D && x) (lt-leb (getD ws 9 0 + 1 + 2 * getD ws (getD ws 9 0) 0) (getD ws 1 0) (omega (arith, e, s))) ∙ row-5 A B C D)
+    past h = sym (five ∙ ap (λ x. A && B && C && D && x) (lt-leb behind (getD ws 1 0) (omega (arith, e, s))) ∙ row-5 A B C D)
 
-    -- twice the count, in the words that are left after it
-    doubled : {count : ℕ} → count ≡ getD ws (getD ws 9 0) 0 → start < end → ltb (2 * count) (end - start) ≡ E
-    doubled {count} c h = go (decLt (2 * count) (end - start))
+    -- three times the count, in the words that are left after it
+    tripled : {count : ℕ} → count ≡ getD ws (getD ws 9 0) 0 → start < end → ltb (3 * count) (end - start) ≡ E
+    tripled {count} c h = go (decLt (3 * count) (end - start))
       where
-        go : Dec (2 * count < end - start) → ltb (2 * count) (end - start) ≡ E
-        go (yes l) = lt-ltb (2 * count) (end - start) l ∙ sym (le-leb (getD ws 9 0 + 1 + 2 * getD ws (getD ws 9 0) 0) (getD ws 1 0) (omega (arith, e, s, c)))
-        go (no l) = le-ltb (2 * count) (end - start) (omega arith) ∙ sym (lt-leb (getD ws 9 0 + 1 + 2 * getD ws (getD ws 9 0) 0) (getD ws 1 0) (omega (arith, e, s, c)))
+        go : Dec (3 * count < end - start) → ltb (3 * count) (end - start) ≡ E
+        go (yes l) = lt-ltb (3 * count) (end - start) l ∙ sym (le-leb behind (getD ws 1 0) (omega (arith, e, s, c)))
+        go (no l) = le-ltb (3 * count) (end - start) (omega arith) ∙ sym (lt-leb behind (getD ws 1 0) (omega (arith, e, s, c)))
 
-    pub last-test : {x count : ℕ} → 10 ≤ length ws → x ≡ getD ws 0 0 → x ≡ 1 → end ≤ length ws → 10 ≤ start → start < end → count ≡ getD ws start 0 →
-        ltb (2 * count) (end - start) ≡ isLinked ws
+    pub last-test : {x count : ℕ} → 10 ≤ length ws → x ≡ getD ws 0 0 → x ≡ 2 → end ≤ length ws → 10 ≤ start → start < end →
+        count ≡ getD ws start 0 → ltb (3 * count) (end - start) ≡ isLinked ws
     last-test {x} {count} a b b' c d f g =
-        doubled (g ∙ ap (λ k. getD ws k 0) s) f
+        tripled (g ∙ ap (λ k. getD ws k 0) s) f
         ∙ sym
         (five
         ∙ ap (λ x. x && B && C && D && E) (le-leb 10 (length ws) a)
-        ∙ ap (λ x. x && C && D && E) (eq-eqb (getD ws 0 0) 1 (sym b ∙ b'))
+        ∙ ap (λ x. x && C && D && E) (eq-eqb (getD ws 0 0) 2 (sym b ∙ b'))
         ∙ ap (λ x. x && D && E) (le-leb (getD ws 1 0) (length ws) (omega (arith, e)))
         ∙ ap (λ x. x && E) (le-leb 10 (getD ws 9 0) (omega (arith, s))))
 
@@ -107,41 +111,45 @@ four-3 false b d = refl
 
 module _ (ws : List ℕ) (t a : ℕ) {start count : ℕ} (s : start ≡ spansStart ws) (c : count ≡ spanCount ws) where
   abbrev preOf : ℕ → ℕ
-  preOf x = getD ws (start + 1 + 2 * x) 0
+  preOf x = getD ws (start + 1 + 3 * x) 0
+
+  abbrev postOf : ℕ → ℕ
+  postOf x = getD ws (start + 2 + 3 * x) 0
 
   -- four tests, one after the other
-  four : isWithin ws t a ≡ (ltb t count && ltb a count && leb (preOf a) (preOf t) && ltb (preOf t) (getD ws (start + 2 + 2 * a) 0))
+  four : isWithin ws t a ≡ (ltb t count && ltb a count && leb (preOf a) (preOf t) && ltb (preOf t) (postOf a))
   unfolding isWithin preIn postIn
   four = rw (c, s) refl
 
   pub unknown-t : count ≤ t → false ≡ isWithin ws t a
-  unknown-t h = sym (four ∙ ap (λ x. x && ltb a count && leb (preOf a) (preOf t) && ltb (preOf t) (getD ws (start + 2 + 2 * a) 0)) (le-ltb t count h))
+  unknown-t h = sym (four ∙ ap (λ x. x && ltb a count && leb (preOf a) (preOf t) && ltb (preOf t) (postOf a)) (le-ltb t count h))
 
   pub unknown-a : count ≤ a → false ≡ isWithin ws t a
   unknown-a h =
       sym
       (four
-      ∙ ap (λ x. ltb t count && x && leb (preOf a) (preOf t) && ltb (preOf t) (getD ws (start + 2 + 2 * a) 0)) (le-ltb a count h)
-      ∙ four-2 (ltb t count) (leb (preOf a) (preOf t)) (ltb (preOf t) (getD ws (start + 2 + 2 * a) 0)))
+      ∙ ap (λ x. ltb t count && x && leb (preOf a) (preOf t) && ltb (preOf t) (postOf a)) (le-ltb a count h)
+      ∙ four-2 (ltb t count) (leb (preOf a) (preOf t)) (ltb (preOf t) (postOf a)))
 
-  module _ {pre low : ℕ} (p : pre ≡ getD ws (start + 1 + 2 * t) 0) (l : low ≡ getD ws (start + 1 + 2 * a) 0) where
+  module _ {pre low : ℕ} (p : pre ≡ getD ws (start + 1 + 3 * t) 0) (l : low ≡ getD ws (start + 1 + 3 * a) 0) where
     pub before : pre < low → false ≡ isWithin ws t a
     before h =
         sym
         (four
-        ∙ ap (λ x. ltb t count && ltb a count && x && ltb (preOf t) (getD ws (start + 2 + 2 * a) 0)) (lt-leb (preOf a) (preOf t) (omega (arith, p, l)))
-        ∙ four-3 (ltb t count) (ltb a count) (ltb (preOf t) (getD ws (start + 2 + 2 * a) 0)))
+        ∙ ap (λ x. ltb t count && ltb a count && x && ltb (preOf t) (postOf a)) (lt-leb (preOf a) (preOf t) (omega (arith, p, l)))
+        ∙ four-3 (ltb t count) (ltb a count) (ltb (preOf t) (postOf a)))
 
-    pub last-of-four : {post : ℕ} → t < count → a < count → low ≤ pre → post ≡ getD ws (start + 1 + 2 * a + 1) 0 → ltb pre post ≡ isWithin ws t a
+    pub last-of-four : {post : ℕ} → t < count → a < count → low ≤ pre → post ≡ getD ws (start + 1 + 3 * a + 1) 0 →
+        ltb pre post ≡ isWithin ws t a
     last-of-four {post} h k j q =
-        let z : start + 1 + 2 * a + 1 ≡ start + 2 + 2 * a = omega arith in
+        let z : start + 1 + 3 * a + 1 ≡ start + 2 + 3 * a = omega arith in
         ap (λ x. ltb x post) p
         ∙ ap (ltb (preOf t)) (q ∙ ap (λ i. getD ws i 0) z)
         ∙ sym
         (four
-        ∙ ap (λ x. x && ltb a count && leb (preOf a) (preOf t) && ltb (preOf t) (getD ws (start + 2 + 2 * a) 0)) (lt-ltb t count h)
-        ∙ ap (λ x. x && leb (preOf a) (preOf t) && ltb (preOf t) (getD ws (start + 2 + 2 * a) 0)) (lt-ltb a count k)
-        ∙ ap (λ x. x && ltb (preOf t) (getD ws (start + 2 + 2 * a) 0)) (le-leb (preOf a) (preOf t) (omega (arith, p, l))))
+        ∙ ap (λ x. x && ltb a count && leb (preOf a) (preOf t) && ltb (preOf t) (postOf a)) (lt-ltb t count h)
+        ∙ ap (λ x. x && leb (preOf a) (preOf t) && ltb (preOf t) (postOf a)) (lt-ltb a count k)
+        ∙ ap (λ x. x && ltb (preOf t) (postOf a)) (le-leb (preOf a) (preOf t) (omega (arith, p, l))))
 
 pub ruleset withins = (unknown-t, unknown-a, before, last-of-four)
 
@@ -155,7 +163,7 @@ module _ (ws : List ℕ) {start : ℕ} (h : isLinked ws ≡ true) (s : start ≡
   start-inside = omega (arith, start-is, linked ws h .room)
 
   pub spans-inside : {count : ℕ} → count ≡ getD ws start 0 →
-      (start ≡ spansStart ws) × ((count ≡ spanCount ws) × (start + 1 + 2 * count ≤ length ws))
+      (start ≡ spansStart ws) × ((count ≡ spanCount ws) × (start + 1 + 3 * count ≤ length ws))
   unfolding spanCount
   spans-inside c =
       let k : _ ≡ spanCount ws = c ∙ ap (λ k. getD ws k 0) start-is in
@@ -166,13 +174,13 @@ header-inside ws h = omega (arith, linked ws h .header)
 
 -- ── the answer ──
 
+pub asked : (ws : List ℕ) {l : Bool} → l ≡ isLinked ws → l ≡ true → isLinked ws ≡ true
+asked ws e h = sym e ∙ h
+
 module _ (ws : List ℕ) (t a : ℕ) {l : Bool} (e : l ≡ isLinked ws) where
   pub not-linked : l ≡ false → 25 ≡ descends ws t a
   unfolding descends
   not-linked h = sym (ap (λ x. cond x (cond (isWithin ws t a) 1 0) 25) (sym e ∙ h))
-
-  pub asked : l ≡ true → isLinked ws ≡ true
-  asked h = sym e ∙ h
 
   module _ (h : l ≡ true) {w : Bool} (f : w ≡ isWithin ws t a) where
     answer : {x : Bool} → w ≡ x → descends ws t a ≡ cond x 1 0

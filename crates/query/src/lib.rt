@@ -1,10 +1,12 @@
-// The queries on a linked table: who descends from whom, and how many do.
+// The queries on a linked table: who descends from whom, how many do, and how long a chain is.
 ghost use mathlib.Core.Path.{_≡_};
 ghost use mathlib.Core.Bool.{true};
 ghost use Prim.Native.Nat.{_+_, _*_, _≤_, _<_};
 ghost use lib.ListN.{length, getD};
-ghost use Rattle.descends.specs.Descends.{spansStart, spanCount, isLinked, isWithin, descends};
-ghost use Rattle.descends.specs.Sizes.{widthIn, knownWidth, sizeIn};
+ghost use Rattle.descends.specs.Descends.{spansStart, spanCount, isLinked, lengthIn, ifKnown, isWithin, descends};
+ghost use Rattle.descends.specs.Lengths.{chainLengthIn};
+ghost use Rattle.descends.specs.Sizes.{widthIn, sizeIn};
+use descends::ChainLength;
 use descends::FamilySize;
 use error::TypeId;
 use region::at;
@@ -25,14 +27,14 @@ pub fn word_at(table: &[u32], start: usize) -> usize
     wide(table[start])
 }
 
-// Edition 1, and a spans section inside the L words. Twice a count of 32 bits does not wrap.
+// Edition 2, and a spans section inside the L words. Three times a count of 32 bits does not wrap.
 pub fn is_linked(table: &[u32]) -> bool
     ensures { λ r. ⌜ r ≡ isLinked (now (table .entry)) ⌝ }
 {
     if table.len() < 10 {
         return false;
     }
-    if at(table, 0) != 1 {
+    if at(table, 0) != 2 {
         return false;
     }
     let end = at(table, 1);
@@ -46,14 +48,14 @@ pub fn is_linked(table: &[u32]) -> bool
     if end <= start {
         return false;
     }
-    2 * word_at(table, start) < end - start
+    3 * word_at(table, start) < end - start
 }
 
 // Both numbers are known, and pre(a) ≤ pre(t) < post(a).
 fn is_within(table: &[u32], start: usize, count: usize, t: u32, a: u32) -> bool
     requires { ⌜ start ≡ spansStart (now table) ⌝ }
     requires { ⌜ count ≡ spanCount (now table) ⌝ }
-    requires { ⌜ start + 1 + 2 * count ≤ length (now table) ⌝ }
+    requires { ⌜ start + 1 + 3 * count ≤ length (now table) ⌝ }
     ensures { λ r. ⌜ r ≡ isWithin (now (table .entry)) t a ⌝ }
 {
     if count <= t as usize {
@@ -63,8 +65,8 @@ fn is_within(table: &[u32], start: usize, count: usize, t: u32, a: u32) -> bool
         return false;
     }
     let first = start + 1;
-    let own = first + 2 * a as usize;
-    let pre = at(table, first + 2 * t as usize);
+    let own = first + 3 * a as usize;
+    let pre = at(table, first + 3 * t as usize);
     if pre < at(table, own) {
         return false;
     }
@@ -95,10 +97,10 @@ pub fn descends(table: &[u32], t: TypeId, a: TypeId) -> u32
 // Post minus pre of a known type, the spans' count standing at start; on words that no load wrote post may be below pre.
 fn width_at(table: &[u32], start: usize, a: u32) -> u32
     requires { ⌜ start ≡ spansStart (now table) ⌝ }
-    requires { ⌜ start + 2 + 2 * a < length (now table) ⌝ }
+    requires { ⌜ start + 2 + 3 * a < length (now table) ⌝ }
     ensures { λ r. ⌜ r ≡ widthIn (now (table .entry)) a ⌝ }
 {
-    let own = start + 1 + 2 * a as usize;
+    let own = start + 1 + 3 * a as usize;
     let pre = table[own];
     let post = table[own + 1];
     if post < pre {
@@ -109,7 +111,7 @@ fn width_at(table: &[u32], start: usize, a: u32) -> u32
 
 fn known_width(table: &[u32], a: u32) -> u32
     requires { ⌜ isLinked (now table) ≡ true ⌝ }
-    ensures { λ r. ⌜ r ≡ knownWidth (now (table .entry)) a ⌝ }
+    ensures { λ r. ⌜ r ≡ ifKnown (now (table .entry)) a (widthIn (now (table .entry)) a) ⌝ }
 {
     let start = at(table, 9);
     if word_at(table, start) <= a as usize {
@@ -126,4 +128,26 @@ pub fn family_size(table: &[u32], a: TypeId) -> FamilySize
         return FamilySize::Size(known_width(table, a.0));
     }
     FamilySize::NotLinked
+}
+
+// The third word of a known type's span.
+fn known_length(table: &[u32], t: u32) -> u32
+    requires { ⌜ isLinked (now table) ≡ true ⌝ }
+    ensures { λ r. ⌜ r ≡ ifKnown (now (table .entry)) t (lengthIn (now (table .entry)) t) ⌝ }
+{
+    let start = at(table, 9);
+    if word_at(table, start) <= t as usize {
+        return 0;
+    }
+    table[start + 3 + 3 * t as usize]
+}
+
+// How many numbers the chain of t has: 1 at a root, 0 where t is no struct type or no type at all.
+pub fn chain_length(table: &[u32], t: TypeId) -> ChainLength
+    ensures { λ r. ⌜ r ≡ chainLengthIn (now (table .entry)) (t .0) ⌝ }
+{
+    if is_linked(table) {
+        return ChainLength::Length(known_length(table, t.0));
+    }
+    ChainLength::NotLinked
 }

@@ -15,7 +15,7 @@ use Rattle.law_counting.specs.Counting.{bool-ext}
 use Rattle.law_counting.specs.Kept.{keep-none}
 use Rattle.error.specs.Answer.{typeNumber}
 use Rattle.descends.specs.Descends.{spanCount, isLinked, preIn, postIn, isWithin}
-use Rattle.descends.specs.DescendsLaws.{within-is, is-within, not-within}
+use Rattle.descends.specs.DescendsLaws.{pre-is, post-is, within-is, is-within, not-within}
 use Rattle.descends.specs.Sizes.{widthIn}
 use Rattle.descends.specs.declared.NearestFamily.{NearestFamily}
 use Rattle.descends.specs.declared.NearestFamily.the-variants.{Found, NoFamily, NotLinked}
@@ -66,25 +66,21 @@ module _ (ws : List ℕ) (low high a : ℕ) (known : a < spanCount ws) where
     same-best e = record { found = e ∙ s .found; least = s .least ∙ ap (leastOf ws) (sym e) }
 
     module _ {start pre post : ℕ} (w : Spans ws start low high)
-        (e : pre ≡ getD ws (start + 1 + 2 * a) 0) (f : post ≡ getD ws (start + 1 + 2 * a + 1) 0) where
-      pre-is : pre ≡ preIn ws a
-      unfolding preIn
-      pre-is = e ∙ ap (λ i. getD ws (i + 1 + 2 * a) 0) (w .starts)
+        (e : pre ≡ getD ws (start + 1 + 3 * a) 0) (f : post ≡ getD ws (start + 1 + 3 * a + 1) 0) where
+      begins : pre ≡ preIn ws a
+      begins = pre-is ws a (w .starts) e
 
-      post-is : post ≡ postIn ws a
-      unfolding postIn
-      post-is =
-          let z : start + 1 + 2 * a + 1 ≡ start + 2 + 2 * a = omega arith in
-          f ∙ ap (λ i. getD ws i 0) z ∙ ap (λ i. getD ws (i + 2 + 2 * a) 0) (w .starts)
+      ends : post ≡ postIn ws a
+      ends = post-is ws a (w .starts) f
 
       width-is : post - pre ≡ widthIn ws a
       unfolding widthIn
-      width-is = ap₂ (λ x y. x - y) post-is pre-is
+      width-is = ap₂ (λ x y. x - y) ends begins
 
       module _ {h : Bool} (q : h ≡ (leb pre low && ltb high post)) where
         held-is : h ≡ holds ws low high a
         unfolding holds
-        held-is = q ∙ ap₂ (λ x y. leb x low && ltb high y) pre-is post-is
+        held-is = q ∙ ap₂ (λ x y. leb x low && ltb high y) begins ends
 
         pub passed : h ≡ false → Scanned ws low high a c
         passed k = same-best (one-more (sym held-is ∙ k))
@@ -112,10 +108,10 @@ module _ (ws : List ℕ) (low high a : ℕ) (known : a < spanCount ws) where
               }
 
 module _ {ws : List ℕ} {start low high a : ℕ} (w : Spans ws start low high) (k : a < spanCount ws) where
-  pub pre-inside : start + 1 + 2 * a < length ws
+  pub pre-inside : start + 1 + 3 * a < length ws
   pre-inside = omega (arith, w .room)
 
-  pub post-inside : start + 1 + 2 * a + 1 < length ws
+  pub post-inside : start + 1 + 3 * a + 1 < length ws
   post-inside = omega (arith, w .room)
 
 pub ruleset bettering = (passed, no-wrap, is-wider, no-wider, pre-inside, post-inside)
@@ -155,10 +151,10 @@ keep-alike p q k (suc n) h =
     ap₂ (λ b l. cond b (k ∷ l) l) (h k (omega arith)) (keep-alike p q (suc k) n (λ x l. h x (omega arith)))
 
 module _ {ws : List ℕ} {start count t u : ℕ} (k : Asked ws start count t u) where
-  pub first-inside : start + 1 + 2 * t < length ws
+  pub first-inside : start + 1 + 3 * t < length ws
   first-inside = omega (arith, k .room, k .first)
 
-  pub second-inside : start + 1 + 2 * u < length ws
+  pub second-inside : start + 1 + 3 * u < length ws
   second-inside = omega (arith, k .room, k .second)
 
   pub asked-spans : {low high : ℕ} → low ≤ high → Spans ws start low high
@@ -212,14 +208,12 @@ nearest-turned ws t u =
     ap (λ p. best (isNarrower ws) (keep p (from 0 (spanCount ws)))) e
 
 module _ {ws : List ℕ} {start count t u : ℕ} (k : Asked ws start count t u) {p q : ℕ}
-    (e : p ≡ getD ws (start + 1 + 2 * t) 0) (f : q ≡ getD ws (start + 1 + 2 * u) 0) where
+    (e : p ≡ getD ws (start + 1 + 3 * t) 0) (f : q ≡ getD ws (start + 1 + 3 * u) 0) where
   first-is : p ≡ preIn ws t
-  unfolding preIn
-  first-is = e ∙ ap (λ i. getD ws (i + 1 + 2 * t) 0) (k .starts)
+  first-is = pre-is ws t (k .starts) e
 
   second-is : q ≡ preIn ws u
-  unfolding preIn
-  second-is = f ∙ ap (λ i. getD ws (i + 1 + 2 * u) 0) (k .starts)
+  second-is = pre-is ws u (k .starts) f
 
   pub in-order : {o : Option ℕ} → p ≤ q → bestFrom ws p q 0 ≡ o → nearestOf ws t u ≡ o
   in-order h s =

@@ -16,14 +16,14 @@ use Rattle.query_nearest.specs.declared.Candidate.{Candidate}
 -- the spans stand behind start, and low is not above high
 pub record Spans (ws : List ℕ) (start low high : ℕ) : Type 0 where
   pub starts : start ≡ spansStart ws
-  pub room : start + 1 + 2 * spanCount ws ≤ length ws
+  pub room : start + 1 + 3 * spanCount ws ≤ length ws
   pub ordered : low ≤ high
 
 -- the spans stand behind start, and both numbers are known
 pub record Asked (ws : List ℕ) (start count t u : ℕ) : Type 0 where
   pub starts : start ≡ spansStart ws
   pub counts : count ≡ spanCount ws
-  pub room : start + 1 + 2 * count ≤ length ws
+  pub room : start + 1 + 3 * count ≤ length ws
   pub first : t < count
   pub second : u < count
 

@@ -32,7 +32,7 @@ fn better(table: &[u32], start: usize, low: usize, high: usize, a: usize, c: Can
     requires { ⌜ Scanned (now table) low high (a + 1) c ⌝ }
     ensures { λ r. ⌜ Scanned (now (table .entry)) low high a r ⌝ }
 {
-    let own = start + 1 + 2 * a;
+    let own = start + 1 + 3 * a;
     let pre = word_at(table, own);
     let post = word_at(table, own + 1);
     if holds(pre, post, low, high) {
@@ -69,8 +69,8 @@ fn between(table: &[u32], start: usize, count: usize, t: u32, u: u32) -> usize
     requires { ⌜ Asked (now table) start count t u ⌝ }
     ensures { λ r. ⌜ nearestOf (now (table .entry)) t u ≡ numbered count r ⌝ }
 {
-    let first = word_at(table, start + 1 + 2 * t as usize);
-    let second = word_at(table, start + 1 + 2 * u as usize);
+    let first = word_at(table, start + 1 + 3 * t as usize);
+    let second = word_at(table, start + 1 + 3 * u as usize);
     if first <= second {
         return scan(table, start, count, first, second);
     }

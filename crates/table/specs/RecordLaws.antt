@@ -98,7 +98,7 @@ struct-words s =
     methods : (x : Method) → length (encodeMethod x) ≡ 2
     methods x = unfold encodeMethod in refl
 
-pub type-few : (m : Module) (d : TypeDef) → length (typeRecord m d) + 3 ≤ 4 * length (encodeType d)
+pub type-few : (m : Module) (d : TypeDef) → length (typeRecord m d) + 4 ≤ 5 * length (encodeType d)
 unfolding typeRecord typeBody encodeType encodeBody encodeValue
 type-few m (func s) = omega arith
 type-few m (struct s) = omega (arith, struct-few m s, struct-words s)

@@ -204,7 +204,7 @@ module _ (w hs ys : List ℕ) (k : ℕ) (e : k ≡ length hs) (room : k + length
 
 -- ten words, equal one by one
 ten : {a b c d e f g h a′ b′ c′ d′ e′ f′ g′ h′ : ℕ} (l : List ℕ) → a ≡ a′ → b ≡ b′ → c ≡ c′ → d ≡ d′ → e ≡ e′ → f ≡ f′ → g ≡ g′ → h ≡ h′
-    → 1 ∷ a ∷ 10 ∷ b ∷ c ∷ d ∷ e ∷ f ∷ g ∷ h ∷ l ≡ 1 ∷ a′ ∷ 10 ∷ b′ ∷ c′ ∷ d′ ∷ e′ ∷ f′ ∷ g′ ∷ h′ ∷ l
+    → 2 ∷ a ∷ 10 ∷ b ∷ c ∷ d ∷ e ∷ f ∷ g ∷ h ∷ l ≡ 2 ∷ a′ ∷ 10 ∷ b′ ∷ c′ ∷ d′ ∷ e′ ∷ f′ ∷ g′ ∷ h′ ∷ l
 ten l q₀ q₁ q₂ q₃ q₄ q₅ q₆ q₇ = cc
 
 module _ (ws w : List ℕ) (o : Opened) where
@@ -317,7 +317,7 @@ module _ (w : List ℕ) (at a b c d : ℕ) (room : at + 4 ≤ length w) where
 
 module _ (w : List ℕ) (f : Front) (b : Back) (room : 10 ≤ length w) where
   abbrev h₁ : List ℕ
-  h₁ = 1 ∷ []
+  h₁ = 2 ∷ []
 
   abbrev h₂ : List ℕ
   h₂ = b .end ∷ []
@@ -331,7 +331,7 @@ module _ (w : List ℕ) (f : Front) (b : Back) (room : 10 ≤ length w) where
   head-fits : 0 + length (h₁ ++ h₂ ++ h₃ ++ h₄) ≤ length w
   head-fits = omega arith
 
-  module _ {v : List ℕ} {p : ℕ} (e₁ : v ≡ written w 0 (1 ∷ [])) (p₁ : p ≡ 0 + 1) where
+  module _ {v : List ℕ} {p : ℕ} (e₁ : v ≡ written w 0 (2 ∷ [])) (p₁ : p ≡ 0 + 1) where
     pub second-word : p < length v
     second-word = omega (arith, second-room w 0 h₁ h₂ h₃ h₄ head-fits e₁ p₁)
 

@@ -57,7 +57,7 @@ module _ (ws : List ℕ) where
 
 -- edition, L, the starts
 unfoldable pub headerOf : Front → Back → List ℕ
-headerOf f b = 1 ∷ b .end ∷ 10 ∷ f .types ∷ f .imports ∷ f .hooks ∷ f .end ∷ b .globals ∷ b .references ∷ b .spans ∷ []
+headerOf f b = 2 ∷ b .end ∷ 10 ∷ f .types ∷ f .imports ∷ f .hooks ∷ f .end ∷ b .globals ∷ b .references ∷ b .spans ∷ []
 
 -- all of these are words
 pub record Small (f : Front) (b : Back) : Type 0 where

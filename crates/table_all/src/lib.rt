@@ -94,7 +94,7 @@ fn write_header(table: &mut [u32], f: Front, b: Back)
     requires { ⌜ Small f b ⌝ }
     ensures { λ r. ⌜ now (table .exit) ≡ written (now (table .entry)) 0 (headerOf f b) ⌝ }
 {
-    let p = push(table, 0, 1);
+    let p = push(table, 0, 2);
     let p = push(table, p, b.end as u32);
     let p = push_four(table, p, 10, f.types, f.imports, f.hooks);
     push_four(table, p, f.end, b.globals, b.references, b.spans);

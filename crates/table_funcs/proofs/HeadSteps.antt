@@ -20,7 +20,7 @@ use Rattle.open_sheet.specs.Ready.{Ready, posAt}
 use Rattle.open_sheet.specs.ReadyLaws.{types-inside, type-canon}
 use Rattle.table.specs.Records.{canonWords}
 use Rattle.writing.specs.Writing.{written}
-use Rattle.writing.specs.WritingLaws.{join-first, join-room, join-written, join-place}
+use Rattle.writing.specs.WritingLaws.{join-first, join-room, join-written, join-place, written-three}
 use Rattle.rule_frames.specs.declared.Frame.{Frame}
 use Rattle.rule_frames.specs.Frames.{funcOf}
 use Rattle.table_values.specs.Values.{valuesAt, Values}
@@ -43,7 +43,7 @@ module _ (w : List ℕ) (at : ℕ) (h : at + 3 ≤ length w) (a : ℕ) (v : List
     three-third = omega (arith, join-room w at (a ∷ b ∷ []) (0 ∷ []) (omega arith) u q two (omega arith))
 
     pub three-written : (c : ℕ) {z : List ℕ} → z ≡ written u q (c ∷ []) → z ≡ written w at (a ∷ b ∷ c ∷ [])
-    three-written c i = join-written w at (a ∷ b ∷ []) (c ∷ []) (omega arith) u q two (omega arith) i
+    three-written c i = written-three w at a b c h e k f l i
 
 -- ── signature and counts ──
 

@@ -1,64 +1,65 @@
--- Spans of no struct, one after the other.
-use mathlib.Core.Path.{_≡_, ap, ap₂, subst, _∙_}
-use mathlib.Core.List.{List}
+-- A span stored, and the spans of no struct one after the other.
+use mathlib.Core.Path.{_≡_, refl, ap, subst, _∙_}
+use mathlib.Core.Logic.{_≢_}
+use mathlib.Core.List.{List, [], _∷_}
 use Prim.Native.Nat.{ℕ, _+_, _*_, _≤_, _<_}
 use native.Mathlib.Omega.{arith}
 use native.Mathlib.Decide.{decLt}
-use lib.ListN.{length, getD, set, length-set}
-use lib.Seq.{getD-set-same, getD-set-other}
-use Rattle.spans.specs.Spans.{noPre, noPost}
-use Rattle.region.specs.Region.{Off}
+use lib.ListN.{length, getD}
+use Rattle.spans.specs.Spans.{noPre, noPost, noLength}
+use Rattle.region.specs.Region.{Off, Frame}
 use Rattle.region.specs.RegionLaws.{frame-refl}
+use Rattle.writing.specs.Writing.{written}
+use Rattle.writing.specs.WritingLaws.{written-at, written-frame}
 use Rattle.table_spans.specs.Walked.{Blank}
 
+-- ── a span stored ──
+
+-- s is the span of t, and y is z with it
+module _ (at t : ℕ) (s z y : List ℕ) (three : length s ≡ 3) (room : at + 1 + 3 * t + 3 ≤ length z)
+    (e : y ≡ written z (at + 1 + 3 * t) s) where
+  fits : at + 1 + 3 * t + length s ≤ length z
+  fits = omega arith
+
+  pub span-frame : Frame (Off (at + 1 + 3 * t) (at + 1 + 3 * t + length s)) z y
+  span-frame = rw e (written-frame z (at + 1 + 3 * t) s fits)
+
+  pub span-words : (j : ℕ) → j < 3 → getD y (at + 1 + 3 * t + j) 0 ≡ getD s j 0
+  span-words j h = rw e (written-at z (at + 1 + 3 * t) s fits j (omega arith))
+
+  pub span-others : (x : ℕ) → x ≢ t → (j : ℕ) → j < 3 → getD y (at + 1 + 3 * x + j) 0 ≡ getD z (at + 1 + 3 * x + j) 0
+  span-others x n j h = span-frame .same (at + 1 + 3 * x + j) (λ a b. n (omega arith))
+
+-- ── spans of no struct ──
+
 pub blank-start : (at : ℕ) (v : List ℕ) → Blank at 0 v v
-blank-start at v = record {
-  frame = frame-refl (Off (at + 1) (at + 1 + 2 * 0)) v;
-  pres = λ x h. absurd (omega arith);
-  posts = λ x h. absurd (omega arith);
-}
+blank-start at v = record { frame = frame-refl (Off (at + 1) (at + 1 + 3 * 0)) v; words = λ x h. absurd (omega arith) }
 
--- after the first of two stores
-pub blank-room : (at t j a : ℕ) (v u z : List ℕ) → Blank at t v u → z ≡ set u j a → length z ≡ length v
-blank-room at t j a v u z b e = ap length e ∙ length-set u j a ∙ b .frame .len
+pub blank-room : (at n t : ℕ) (v u : List ℕ) → at + 1 + 3 * n ≤ length v → t < n → Blank at t v u → at + 1 + 3 * t + 3 ≤ length u
+blank-room at n t v u h l b = omega (arith, b .frame .len)
 
-pub blank-next : (at n t : ℕ) (v u z y : List ℕ) → at + 1 + 2 * n ≤ length v → t < n → Blank at t v u → z ≡ set u (at + 1 + 2 * t) 4294967295 → y ≡ set z (at + 2 + 2 * t) 0 → Blank at (t + 1) v y
-blank-next at n t v u z y room h b d e = record {
-  frame = record {
-    len = ap length e ∙ length-set z (at + 2 + 2 * t) 0 ∙ long;
-    same = λ k o.
-        let p : Off (at + 1) (at + 1 + 2 * t) k = λ x y. o x (omega arith) in
-        let q : k ≡ at + 1 + 2 * t → ⊥ = λ x. o (omega arith) (omega arith) in
-        let r : k ≡ at + 2 + 2 * t → ⊥ = λ x. o (omega arith) (omega arith) in
-        last k r ∙ first k q ∙ b .frame .same k p;
-  };
-  pres = λ x l. pre-of x l (decLt x t);
-  posts = λ x l. post-of x l (decLt x t);
-}
-  where
-    long : length z ≡ length v
-    long = blank-room at t (at + 1 + 2 * t) 4294967295 v u z b d
+module _ (at n t : ℕ) (v u y : List ℕ) (h : at + 1 + 3 * n ≤ length v) (l : t < n) (b : Blank at t v u)
+    (e : y ≡ written u (at + 1 + 3 * t) (noPre ∷ noPost ∷ noLength ∷ [])) where
+  room : at + 1 + 3 * t + 3 ≤ length u
+  room = blank-room at n t v u h l b
 
-    first : (k : ℕ) → (k ≡ at + 1 + 2 * t → ⊥) → getD z k 0 ≡ getD u k 0
-    first k n = ap (λ l. getD l k 0) d ∙ getD-set-other u (at + 1 + 2 * t) k 4294967295 0 n
+  frame : Frame (Off (at + 1 + 3 * t) (at + 1 + 3 * t + 3)) u y
+  frame = span-frame at t (noPre ∷ noPost ∷ noLength ∷ []) u y refl room e
 
-    last : (k : ℕ) → (k ≡ at + 2 + 2 * t → ⊥) → getD y k 0 ≡ getD z k 0
-    last k n = ap (λ l. getD l k 0) e ∙ getD-set-other z (at + 2 + 2 * t) k 0 0 n
+  word : (x : ℕ) → Dec (x < t) → x < t + 1 → (j : ℕ) → j < 3 → getD y (at + 1 + 3 * x + j) 0 ≡ getD (noPre ∷ noPost ∷ noLength ∷ []) j 0
+  word x (yes i) m j k = frame .same (at + 1 + 3 * x + j) (λ a c. omega arith) ∙ b .words x i j k
+  word x (no i) m j k =
+      let q : x ≡ t = omega arith in
+      ap (λ z. getD y (at + 1 + 3 * z + j) 0) q ∙ span-words at t (noPre ∷ noPost ∷ noLength ∷ []) u y refl room e j k
 
-    pre-of : (x : ℕ) → x < t + 1 → Dec (x < t) → getD y (at + 1 + 2 * x) 0 ≡ noPre
-    pre-of x l (yes i) = last (at + 1 + 2 * x) (omega arith) ∙ first (at + 1 + 2 * x) (omega arith) ∙ b .pres x i
-    pre-of x l (no i) =
-        let q : x ≡ t = omega arith in
-        last (at + 1 + 2 * x) (omega arith)
-        ∙ ap₂ (λ l j. getD l (at + 1 + 2 * j) 0) d q
-        ∙ getD-set-same u (at + 1 + 2 * t) 4294967295 0 (omega (arith, b .frame .len))
-
-    post-of : (x : ℕ) → x < t + 1 → Dec (x < t) → getD y (at + 2 + 2 * x) 0 ≡ noPost
-    post-of x l (yes i) = last (at + 2 + 2 * x) (omega arith) ∙ first (at + 2 + 2 * x) (omega arith) ∙ b .posts x i
-    post-of x l (no i) =
-        let q : x ≡ t = omega arith in
-        ap₂ (λ l j. getD l (at + 2 + 2 * j) 0) e q
-        ∙ getD-set-same z (at + 2 + 2 * t) 0 0 (omega (arith, long))
+  pub blank-next : Blank at (t + 1) v y
+  blank-next = record {
+    frame = record {
+      len = frame .len ∙ b .frame .len;
+      same = λ k o. frame .same k (λ a c. o (omega arith) (omega arith)) ∙ b .frame .same k (λ a c. o a (omega arith));
+    };
+    words = λ x. word x (decLt x t);
+  }
 
 pub blank-end : (at n t : ℕ) (v u : List ℕ) → t ≤ n → n ≤ t → Blank at t v u → Blank at n v u
 blank-end at n t v u h k b = let e : t ≡ n = omega arith in subst (λ i. Blank at i v u) e b

@@ -2,29 +2,31 @@
 use mathlib.Core.Path.{_≡_, refl, sym, ap, ap₂, subst, _∙_}
 use mathlib.Core.Bool.{Bool, true, false}
 use mathlib.Core.List.{List, []}
-use Prim.Native.Nat.{ℕ, zero, suc, _+_, _-_, _*_, _≤_, _<_}
+use Prim.Native.Nat.{ℕ, zero, suc, _+_, _-_, _*_, _/_, _%_, _≤_, _<_}
 use native.Mathlib.Omega.{arith}
+use native.Mathlib.Nat.{mod-lt, div-add-mod'}
 use native.Mathlib.Decide.{decLt}
 use lib.ListN.{length, getD, set, length-set}
 use lib.Seq.{getD-set-same, getD-set-other}
 use Rattle.lists.specs.Lists.{concatMap}
-use Rattle.lists.specs.ListLaws.{getD-concatMapFrom}
 use Rattle.law_counting.specs.Counting.{tick, count}
 use Rattle.region.specs.Region.{Off, Frame}
-use Rattle.sheet.specs.Module.{TypeDef, coroutine, Module, typeAt, isStruct}
+use Rattle.sheet.specs.Module.{TypeDef, Module, typeAt, isStruct}
 use Rattle.open_layout.specs.Opened.{moduleIn}
 use Rattle.parents.specs.Parents.{mostOnChain, parentsFaults}
-use Rattle.spans.specs.Spans.{under, order, spanOf, spans}
+use Rattle.spans.specs.Spans.{roots, under, order, spanOf, spans}
 use Rattle.law_forest.specs.Entries.{isStructEntry, struct-at, entry-out}
 use Rattle.law_forest.specs.Once.{ChainRule, once}
 use Rattle.law_forest.specs.Family.{Part, part-self, ready-root}
 use Rattle.law_forest.specs.Accepted.{chain-rule}
+use Rattle.law_forest.specs.Lengths.{length-roots}
 use Rattle.table.specs.Table.{spanSection}
-use Rattle.table.specs.TableLaws.{span-two, spanSection-length}
+use Rattle.table.specs.TableLaws.{span-at, spanSection-length}
 use Rattle.open_sheet.specs.declared.Opened.{Opened}
 use Rattle.open_sheet.specs.Ready.{Ready}
 use Rattle.writing.specs.Writing.{written}
 use Rattle.writing.specs.WritingLaws.{written-by}
+use Rattle.table_spans.specs.Siblings.{membersFrom}
 use Rattle.table_spans.specs.Walked.{walksFrom, Walks, Numbered, Blank}
 use Rattle.table_spans.proofs.LinkSteps.{members-roots, counted}
 
@@ -37,28 +39,22 @@ walks-order most types = ap (concatMap (under most types)) (members-roots types)
 pub walks-all : (m : Module) → parentsFaults mostOnChain m ≡ [] → Walks mostOnChain (m .types) 0 0 mostOnChain
 walks-all m e =
     let rule : ChainRule mostOnChain (m .types) = chain-rule mostOnChain (omega arith) m e in
+    let all = walksFrom mostOnChain (m .types) 0 0 in
     record {
       rule = rule;
-      placed = record {
-        part = subst (λ l. Part (walksFrom mostOnChain (m .types) 0 0) l) (walks-order mostOnChain (m .types)) (part-self (walksFrom mostOnChain (m .types) 0 0));
-        before = refl;
-      };
-      ready = λ t h. ready-root mostOnChain (m .types) rule t (subst (λ l. 1 ≤ count t l) (members-roots (m .types)) h);
+      placed = record { part = subst (λ l. Part all l) (walks-order mostOnChain (m .types)) (part-self all); before = refl };
+      ready = λ t h. ready-root mostOnChain (m .types) rule t (rooted t h);
+      level = λ t h. omega (arith, length-roots mostOnChain (m .types) rule t (rooted t h));
     }
+  where
+    rooted : (t : ℕ) → 1 ≤ count t (membersFrom (m .types) 0 0) → 1 ≤ count t (roots (m .types))
+    rooted t h = subst (λ l. 1 ≤ count t l) (members-roots (m .types)) h
 
 -- ── words of the section ──
 
--- even or odd
-half : {C : Type 0} (j : ℕ) → ((x : ℕ) → j ≡ 2 * x + 0 → C) → ((x : ℕ) → j ≡ 2 * x + 1 → C) → C
-half zero e o = e 0 (omega arith)
-half (suc j) e o = half j (λ x q. o x (omega arith)) (λ x q. e (suc x) (omega arith))
-
-span-word : (most : ℕ) (types : List TypeDef) (x j : ℕ) → x < length types → j < 2 → getD (spans most types) (2 * x + j) 0 ≡ getD (spanOf most types x (isStruct (typeAt types x))) j 0
-unfolding spans typeAt
-span-word most types x j h k =
-    let e : 0 + x ≡ x = omega arith in
-    getD-concatMapFrom (λ t d. spanOf most types t (isStruct d)) 2 (λ t d. span-two most types t (isStruct d)) 0 types x j coroutine 0 h k
-    ∙ ap (λ t. getD (spanOf most types t (isStruct (getD types x coroutine))) j 0) e
+-- j is word r of some span x
+by-three : {C : Type 0} (j : ℕ) → ((x r : ℕ) → r < 3 → j ≡ 3 * x + r → C) → C
+by-three j f = f (j / 3) (j % 3) (mod-lt j (omega arith)) (omega (arith, div-add-mod' j 3))
 
 first-word : (most : ℕ) (m : Module) → getD (spanSection most m) 0 0 ≡ length (m .types)
 unfolding spanSection
@@ -73,10 +69,10 @@ later-word most m j = refl
 module _ (most : ℕ) (m : Module) (rule : ChainRule most (m .types)) (at : ℕ) (v u z y : List ℕ)
     (room : at + length (spanSection most m) ≤ length v) (a : u ≡ set v at (length (m .types))) (b : Blank at (length (m .types)) u z)
     (n : Numbered most (m .types) at (order most (m .types)) z y) where
-  size : length (spanSection most m) ≡ 1 + 2 * length (m .types)
+  size : length (spanSection most m) ≡ 1 + 3 * length (m .types)
   size = spanSection-length most m
 
-  old : (k : ℕ) → (k ≡ at → ⊥) → Off (at + 1) (at + 1 + 2 * length (m .types)) k → getD z k 0 ≡ getD v k 0
+  old : (k : ℕ) → (k ≡ at → ⊥) → Off (at + 1) (at + 1 + 3 * length (m .types)) k → getD z k 0 ≡ getD v k 0
   old k e o = b .frame .same k o ∙ ap (λ l. getD l k 0) a ∙ getD-set-other v at k (length (m .types)) 0 e
 
   -- a number that is no type is not on the walk
@@ -89,38 +85,29 @@ module _ (most : ℕ) (m : Module) (rule : ChainRule most (m .types)) (at : ℕ)
     same = λ k o. go k o (decLt k at);
   }
     where
-      after : (k : ℕ) → at + 1 + 2 * length (m .types) ≤ k → getD y k 0 ≡ getD v k 0
-      after k h = half (k - (at + 1))
-          (λ x q.
-          let e : k ≡ at + 1 + 2 * x = omega arith in
-          ap (λ i. getD y i 0) e ∙ n .samePre x (off-walk x (omega arith)) ∙ ap (λ i. getD z i 0) (sym e) ∙ old k (omega arith) (λ c d. omega arith))
-          (λ x q.
-          let e : k ≡ at + 2 + 2 * x = omega arith in
-          ap (λ i. getD y i 0) e ∙ n .samePost x (off-walk x (omega arith)) ∙ ap (λ i. getD z i 0) (sym e) ∙ old k (omega arith) (λ c d. omega arith))
+      after : (k : ℕ) → at + 1 + 3 * length (m .types) ≤ k → getD y k 0 ≡ getD v k 0
+      after k h = by-three (k - (at + 1)) λ x r l q.
+          let e : k ≡ at + 1 + 3 * x + r = omega arith in
+          ap (λ i. getD y i 0) e
+          ∙ n .same x (off-walk x (omega arith)) r l
+          ∙ ap (λ i. getD z i 0) (sym e)
+          ∙ old k (omega arith) (λ c d. omega arith)
 
       go : (k : ℕ) → Off at (at + length (spanSection most m)) k → Dec (k < at) → getD y k 0 ≡ getD v k 0
       go k o (yes h) = n .front k (omega arith) ∙ old k (omega arith) (λ c d. omega arith)
       go k o (no h) = after k (far (decLt k (at + length (spanSection most m))))
         where
-          far : Dec (k < at + length (spanSection most m)) → at + 1 + 2 * length (m .types) ≤ k
+          far : Dec (k < at + length (spanSection most m)) → at + 1 + 3 * length (m .types) ≤ k
           far (yes l) = absurd (o (omega arith) l)
           far (no l) = omega (arith, size)
 
-  on-walk : (x : ℕ) → isStruct (typeAt (m .types) x) ≡ true → 1 ≤ count x (order most (m .types))
-  on-walk x e = omega (arith, once most (m .types) rule x, ap tick (struct-at (m .types) x ∙ e))
+  walked : (x : ℕ) (s : Bool) → isStruct (typeAt (m .types) x) ≡ s → count x (order most (m .types)) ≡ tick s
+  walked x s e = once most (m .types) rule x ∙ ap tick (struct-at (m .types) x ∙ e)
 
-  not-walked : (x : ℕ) → isStruct (typeAt (m .types) x) ≡ false → count x (order most (m .types)) ≡ 0
-  not-walked x e = once most (m .types) rule x ∙ ap tick (struct-at (m .types) x ∙ e)
-
-  pre-word : (x : ℕ) → x < length (m .types) → (s : Bool) → isStruct (typeAt (m .types) x) ≡ s → getD y (at + 1 + 2 * x) 0 ≡ getD (spanOf most (m .types) x s) 0 0
-  unfolding spanOf
-  pre-word x h true e = n .pres x (on-walk x e)
-  pre-word x h false e = n .samePre x (not-walked x e) ∙ b .pres x h
-
-  post-word : (x : ℕ) → x < length (m .types) → (s : Bool) → isStruct (typeAt (m .types) x) ≡ s → getD y (at + 2 + 2 * x) 0 ≡ getD (spanOf most (m .types) x s) 1 0
-  unfolding spanOf
-  post-word x h true e = n .posts x (on-walk x e)
-  post-word x h false e = n .samePost x (not-walked x e) ∙ b .posts x h
+  span-word : (x : ℕ) → x < length (m .types) → (s : Bool) → isStruct (typeAt (m .types) x) ≡ s → (r : ℕ) → r < 3
+      → getD y (at + 1 + 3 * x + r) 0 ≡ getD (spanOf most (m .types) x s) r 0
+  span-word x h true e r l = n .words x (omega (arith, walked x true e)) r l
+  span-word x h false e r l = unfold spanOf in n .same x (walked x false e) r l ∙ b .words x h r l
 
   word : (i : ℕ) → i < length (spanSection most m) → getD y (at + i) 0 ≡ getD (spanSection most m) i 0
   word zero h =
@@ -130,44 +117,32 @@ module _ (most : ℕ) (m : Module) (rule : ChainRule most (m .types)) (at : ℕ)
       ∙ ap₂ (λ l k. getD l k 0) a e
       ∙ getD-set-same v at (length (m .types)) 0 (omega (arith, size))
       ∙ sym (first-word most m)
-  word (suc j) h = half j
-      (λ x q.
-      let e : at + suc j ≡ at + 1 + 2 * x = omega arith in
+  word (suc j) h = by-three j λ x r k q.
+      let e : at + suc j ≡ at + 1 + 3 * x + r = omega arith in
       let l : x < length (m .types) = omega (arith, size) in
       ap (λ i. getD y i 0) e
-      ∙ pre-word x l (isStruct (typeAt (m .types) x)) refl
-      ∙ sym (later-word most m j ∙ ap (λ i. getD (spans most (m .types)) i 0) q ∙ span-word most (m .types) x 0 l (omega arith)))
-      (λ x q.
-      let e : at + suc j ≡ at + 2 + 2 * x = omega arith in
-      let l : x < length (m .types) = omega (arith, size) in
-      ap (λ i. getD y i 0) e
-      ∙ post-word x l (isStruct (typeAt (m .types) x)) refl
-      ∙ sym (later-word most m j ∙ ap (λ i. getD (spans most (m .types)) i 0) q ∙ span-word most (m .types) x 1 l (omega arith)))
+      ∙ span-word x l (isStruct (typeAt (m .types) x)) refl r k
+      ∙ sym (later-word most m j ∙ ap (λ i. getD (spans most (m .types)) i 0) q ∙ span-at most (m .types) x r l k)
 
   section-written : y ≡ written v at (spanSection most m)
   section-written = written-by v y at (spanSection most m) kept word room
 
 -- ── as the code has it ──
 
-module _ (ws w : List ℕ) (o : Opened) (x : Ready ws w o) (e : parentsFaults mostOnChain (moduleIn ws) ≡ []) (at : ℕ) (v : List ℕ)
-    (room : at + length (spanSection mostOnChain (moduleIn ws)) ≤ length v) where
-  pub section-end : at + 1 + 2 * o .counts .types ≡ at + length (spanSection mostOnChain (moduleIn ws))
-  section-end = omega (arith, counted ws w o x, spanSection-length mostOnChain (moduleIn ws))
+pub section-size : {ws w : List ℕ} {o : Opened} → Ready ws w o
+    → length (spanSection mostOnChain (moduleIn ws)) ≡ 1 + 3 * o .counts .types
+section-size {ws} {w} {o} x = omega (arith, counted ws w o x, spanSection-length mostOnChain (moduleIn ws))
 
-  pub section-room : at + 1 + 2 * o .counts .types ≤ length v
-  section-room = omega (arith, section-end)
-
-  pub counted-room : (u : List ℕ) → u ≡ set v at (o .counts .types) → at + 1 + 2 * o .counts .types ≤ length u
-  counted-room u a = omega (arith, section-room, ap length a, length-set v at (o .counts .types))
-
-  pub blank-long : (u z : List ℕ) → u ≡ set v at (o .counts .types) → Blank at (o .counts .types) u z → at + 1 + 2 * o .counts .types ≤ length z
-  blank-long u z a b = omega (arith, counted-room u a, b .frame .len)
-
-  pub spans-written : (u z y : List ℕ) → u ≡ set v at (o .counts .types) → Blank at (o .counts .types) u z
-      → Numbered mostOnChain (moduleIn ws .types) at (walksFrom mostOnChain (moduleIn ws .types) 0 0) z y → y ≡ written v at (spanSection mostOnChain (moduleIn ws))
-  spans-written u z y a b n =
-      let c : o .counts .types ≡ length (moduleIn ws .types) = counted ws w o x in
-      section-written mostOnChain (moduleIn ws) (chain-rule mostOnChain (omega arith) (moduleIn ws) e) at v u z y room
-      (a ∙ ap (set v at) c)
-      (subst (λ i. Blank at i u z) c b)
-      (subst (λ l. Numbered mostOnChain (moduleIn ws .types) at l z y) (walks-order mostOnChain (moduleIn ws .types)) n)
+pub spans-written : {ws w : List ℕ} {o : Opened} → Ready ws w o → parentsFaults mostOnChain (moduleIn ws) ≡ []
+    → (at : ℕ) (v u z y : List ℕ)
+    → at + length (spanSection mostOnChain (moduleIn ws)) ≤ length v
+    → u ≡ set v at (o .counts .types)
+    → Blank at (o .counts .types) u z
+    → Numbered mostOnChain (moduleIn ws .types) at (walksFrom mostOnChain (moduleIn ws .types) 0 0) z y
+    → y ≡ written v at (spanSection mostOnChain (moduleIn ws))
+spans-written {ws} {w} {o} x e at v u z y room a b n =
+    let c : o .counts .types ≡ length (moduleIn ws .types) = counted ws w o x in
+    section-written mostOnChain (moduleIn ws) (chain-rule mostOnChain (omega arith) (moduleIn ws) e) at v u z y room
+    (a ∙ ap (set v at) c)
+    (subst (λ i. Blank at i u z) c b)
+    (subst (λ l. Numbered mostOnChain (moduleIn ws .types) at l z y) (walks-order mostOnChain (moduleIn ws .types)) n)

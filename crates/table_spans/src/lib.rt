@@ -1,6 +1,6 @@
-// The numbering walk in code: pre and post of each struct, written as a section of the linked table.
+// The numbering walk in code: pre, post and chain length of each struct, written as a section of the linked table.
 ghost use mathlib.Core.Path.{_≡_};
-ghost use mathlib.Core.List.{[]};
+ghost use mathlib.Core.List.{[], _∷_};
 ghost use Prim.Native.Nat.{_+_, _*_, _≤_, _<_};
 ghost use lib.ListN.{length};
 ghost use Rattle.region.specs.Region.{Off, Frame};
@@ -18,6 +18,7 @@ use region::put;
 use region::widen;
 use rule3_parents::is_struct;
 use rule3_parents::parent_of;
+use writing::push;
 
 // A struct becomes the first of its parent's children, a root the first of the roots.
 fn link(sheet: &[u8], work: &mut [u32], o: Opened, t: TypeId)
@@ -50,15 +51,25 @@ fn link_all(sheet: &[u8], work: &mut [u32], o: Opened)
     }
 }
 
+// The three words of a span.
+fn store_span(table: &mut [u32], at: usize, pre: usize, post: usize, len: usize)
+    requires { ⌜ at + 3 ≤ length (now table) ⌝ }
+    requires { ⌜ (pre < 4294967296) × ((post < 4294967296) × (len < 4294967296)) ⌝ }
+    ensures { λ r. ⌜ now (table .exit) ≡ written (now (table .entry)) at (pre ∷ post ∷ len ∷ []) ⌝ }
+{
+    let p = push(table, at, pre as u32);
+    let p = push(table, p, post as u32);
+    push(table, p, len as u32);
+}
+
 // Every type is no struct until the walk enters it.
 fn blank_spans(table: &mut [u32], at: usize, n: usize)
-    requires { ⌜ at + 1 + 2 * n ≤ length (now table) ⌝ }
+    requires { ⌜ at + 1 + 3 * n ≤ length (now table) ⌝ }
     ensures { λ r. ⌜ Blank at n (now (table .entry)) (now (table .exit)) ⌝ }
 {
     let mut t = 0;
     while t < n {
-        put(table, at + 1 + 2 * t, 4294967295);
-        put(table, at + 2 + 2 * t, 0);
+        store_span(table, at + 1 + 3 * t, 4294967295, 0, 0);
         t += 1;
     }
 }
@@ -77,22 +88,22 @@ fn visit(
     requires { ⌜ Linked (moduleOf (now sheet) o .types) o (now work) ⌝ }
     requires { ⌜ Walks mostOnChain (moduleOf (now sheet) o .types) list clock left ⌝ }
     requires { ⌜ list ≤ o .counts .types ⌝ }
-    requires { ⌜ at + 1 + 2 * o .counts .types ≤ length (now table) ⌝ }
+    requires { ⌜ at + 1 + 3 * o .counts .types ≤ length (now table) ⌝ }
     ensures { λ r. ⌜ Numbered mostOnChain (moduleOf (now (sheet .entry)) o .types) at (walksFrom left (moduleOf (now (sheet .entry)) o .types) list 0) (now (table .entry)) (now (table .exit)) ⌝ }
     ensures { λ r. ⌜ r ≡ clock + length (walksFrom left (moduleOf (now (sheet .entry)) o .types) list 0) ⌝ }
 {
     let mut now = clock;
     let mut t = widen(work[4 * o.layout.words + list]);
     while t < o.counts.types as usize {
-        put(table, at + 1 + 2 * t, now);
-        now = visit(sheet, work, o, table, at, t + 1, now + 1, left - 1);
-        put(table, at + 2 + 2 * t, now);
+        let after = visit(sheet, work, o, table, at, t + 1, now + 1, left - 1);
+        store_span(table, at + 1 + 3 * t, now, after, 257 - left as usize);
+        now = after;
         t = widen(work[6 * o.layout.words + t]);
     }
     now
 }
 
-// The count of types, and pre and post of each; the answer is the next place.
+// The count of types, and pre, post and chain length of each; the answer is the next place.
 pub fn write_spans(sheet: &[u8], work: &mut [u32], o: Opened, table: &mut [u32], at: usize) -> usize
     requires { ⌜ Ready (sheetWords (now sheet) o) (now work) o ⌝ }
     requires { ⌜ parentsFaults mostOnChain (moduleOf (now sheet) o) ≡ [] ⌝ }
@@ -106,5 +117,5 @@ pub fn write_spans(sheet: &[u8], work: &mut [u32], o: Opened, table: &mut [u32],
     put(table, at, n);
     blank_spans(table, at, n);
     visit(sheet, work, o, table, at, 0, 0, 256);
-    at + 1 + 2 * n
+    at + 1 + 3 * n
 }

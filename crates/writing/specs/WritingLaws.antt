@@ -47,6 +47,13 @@ module _ (w : List ℕ) (at : ℕ) (xs ys : List ℕ) (h : at + length (xs ++ ys
     pub join-place : {q : ℕ} → q ≡ p + length ys → q ≡ at + length (xs ++ ys)
     join-place i = omega (arith, length-append xs ys)
 
+-- three words, one after the other
+pub written-three : (w : List ℕ) (at a b c : ℕ) {v u z : List ℕ} {p q : ℕ} → at + 3 ≤ length w → v ≡ written w at (a ∷ []) → p ≡ at + 1
+    → u ≡ written v p (b ∷ []) → q ≡ p + 1 → z ≡ written u q (c ∷ []) → z ≡ written w at (a ∷ b ∷ c ∷ [])
+written-three w at a b c {v} {u} {z} {p} {q} h e k f l g =
+    let two : u ≡ written w at (a ∷ b ∷ []) = join-written w at (a ∷ []) (b ∷ []) (omega arith) v p e k f in
+    join-written w at (a ∷ b ∷ []) (c ∷ []) (omega arith) u q two (omega arith) g
+
 -- ── word by word ──
 
 module _ (w : List ℕ) (at : ℕ) (xs : List ℕ) (h : at + length xs ≤ length w) where

@@ -1,9 +1,9 @@
 //! One case or pair at a time against the reference.
 
-use bvm_lang::{descends, table_words, Program};
+use bvm_lang::{descends, Program};
 use compare::{
-    answer, asked_numbers, descends_by_parents, load, nearest_difference, pair_difference, query,
-    StoredCase,
+    answer, asked_numbers, descends_by_parents, length_difference, load, nearest_difference,
+    pair_difference, query, said_by, Accepted, StoredCase,
 };
 use generator::{case, pair, Case, Draft, Rng};
 use paqlluri::LoadError;
@@ -61,15 +61,15 @@ impl<'l, L: Loader> Checker<'l, L> {
     /// A case, whatever it came from.
     pub fn given(&mut self, rng: &mut Rng, case: &Case) -> Result<(), String> {
         self.tally.cases += 1;
-        let (numbers, program) = self.call(case)?;
+        let (numbers, accepted) = self.call(case)?;
         let intact = decode_sheet(&case.sheet).map(|(sheet, _)| sheet);
         let structs = self.count(&case.sheet, intact.as_ref())?;
-        let Some(program) = program else {
+        let Some(Accepted { sheet, program, .. }) = accepted else {
             self.tally.coverage.add_numbers(numbers, None);
             self.foreign_size(rng)?;
+            self.foreign_length(rng)?;
             return self.foreign_nearest(rng);
         };
-        let sheet = intact.ok_or("accepted and not intact")?;
         self.tally.coverage.add_numbers(numbers, Some(&sheet));
         self.tally.accept(&case.sheet, numbers[2] as usize);
         self.families(rng, &program, &sheet)?;
@@ -81,7 +81,9 @@ impl<'l, L: Loader> Checker<'l, L> {
             ));
         }
         self.altered_sizes(rng)?;
-        self.nearest_families(rng, &sheet)
+        self.chain_lengths(rng, &sheet)?;
+        self.nearest_families(rng, &sheet)?;
+        self.invented_lengths(rng)
     }
 
     /// Pair `open_index` of a seed, as demand 3 says.
@@ -113,29 +115,34 @@ impl<'l, L: Loader> Checker<'l, L> {
         self.tally.accepted_pairs += 1;
         let second = &self.table.now()[..others[2] as usize];
         let asked = asked_numbers(rng, images.len(), ASKED);
+        let all = asked_numbers(rng, images.len(), images.len());
         let (pairs, tables) = ((asked.len() * asked.len()) as u64, [&first[..], second]);
         self.tally.queries += 2 * pairs;
         self.tally.moved += pairs;
+        self.tally.moved_lengths += all.len() as u64;
         let query = |table: &[u32], t, a| self.loader.descends(table, t, a);
         let nearest = |table: &[u32], t, u| self.loader.nearest(table, t, u);
-        let differs = pair_difference(images, &asked, tables, query);
-        match differs.or_else(|| nearest_difference(images, &asked, tables, nearest)) {
+        let length = |table: &[u32], t| self.loader.chain_length(table, t);
+        let differs = pair_difference(images, &asked, tables, query)
+            .or_else(|| nearest_difference(images, &asked, tables, nearest))
+            .or_else(|| length_difference(images, &all, tables, length));
+        match differs {
             Some(what) => Err(format!("tables of a renumbered pair differ in {what}")),
             None => Ok(()),
         }
     }
 
     /// One call against the reference's: the numbers, and every word of table and work.
-    fn call(&mut self, case: &Case) -> Result<([u32; 6], Option<Program>), String> {
+    fn call(&mut self, case: &Case) -> Result<([u32; 6], Option<Accepted>), String> {
         let expected = load(&case.sheet, &case.hosts, case.table_len, case.work_len);
         let table = self.table.lend(case.table_len as usize);
         let work = self.work.lend(case.work_len as usize);
         let numbers = self.loader.load(&case.sheet, &case.hosts, table, work);
-        let (expected, words, program) = match expected {
+        let (expected, words, accepted) = match expected {
             Err(numbers) => (numbers, Vec::new(), None),
-            Ok((program, host)) => {
-                let words = table_words(&program, &host);
-                ([0, 0, words.len() as u32, 0, 0, 0], words, Some(program))
+            Ok(accepted) => {
+                let words = accepted.table();
+                ([0, 0, words.len() as u32, 0, 0, 0], words, Some(accepted))
             }
         };
         if numbers != expected {
@@ -143,10 +150,10 @@ impl<'l, L: Loader> Checker<'l, L> {
         }
         self.slices(numbers[0], &words)?;
         let named = LoadError::from_numbers(numbers).map(|e| e.numbers());
-        if program.is_none() && named != Some(numbers) {
+        if accepted.is_none() && named != Some(numbers) {
             return Err(format!("{numbers:?} have no name"));
         }
-        Ok((numbers, program))
+        Ok((numbers, accepted))
     }
 
     /// The table begins with these words and is else as before; work is zero, or as before.
@@ -155,8 +162,9 @@ impl<'l, L: Loader> Checker<'l, L> {
         if !table.starts_with(words) {
             let place = table.iter().zip(words).take_while(|(a, b)| a == b).count();
             let (found, expected) = (table.get(place), words.get(place));
+            let by = said_by(words, place);
             return Err(format!(
-                "table word {place} is {found:?}, the reference's {expected:?}"
+                "table word {place} is {found:?}, {by} {expected:?}"
             ));
         }
         if let Some(place) = self.table.changed_from(words.len()) {
@@ -207,9 +215,11 @@ impl<'l, L: Loader> Checker<'l, L> {
         let table = self.table.now_mut();
         let (length, spans) = (table[1], table[9]);
         for _ in 0..ALTERED {
-            let place = rng.pick(&[0, 1, 9, spans, spans + 1]).min(length - 1) as usize;
-            let any = rng.word();
-            let word = rng.pick(&[0, 1, 2, 9, 10, spans, length - 1, length, length + 1, any]);
+            let places = [0, 1, 9, spans, spans + 1, spans + 3];
+            let place = rng.pick(&places).min(length - 1) as usize;
+            let (any, third) = (rng.word(), 0x5555_5555 + rng.index(3));
+            let near = rng.pick(&[length - 1, length, length + 1]);
+            let word = rng.pick(&[0, 1, 2, 3, 9, 10, spans, near, third, any]);
             let kept = std::mem::replace(&mut table[place], word);
             let end = rng.pick(&[9, 10, 11, length as usize - 1, length as usize, table.len()]);
             let (t, a) = (rng.index(4), rng.index(4));

@@ -10,6 +10,9 @@ pub(crate) const ALTERED: usize = 8;
 /// A table of invented spans has at most so many types.
 const MOST_INVENTED: usize = 7;
 
+/// A third and two thirds of 2^32, rounded down: three times a count wraps in 32 bits just above them.
+const THIRDS: [u32; 2] = [0x5555_5555, 0xaaaa_aaaa];
+
 /// One word of a table altered, and the table cut.
 pub(crate) struct Damage {
     place: usize,
@@ -23,9 +26,10 @@ impl Damage {
         let (length, spans) = (table[1], table[9]);
         let count = table[spans as usize];
         // Where it has none, that of the first type, or what stands behind the table.
-        let own = spans + 1 + if a < count { 2 * a } else { 0 };
+        let own = spans + 1 + if a < count { 3 * a } else { 0 };
         let (pre, post) = (table[own as usize], table[own as usize + 1]);
-        let place = rng.pick(&[0, 1, 9, spans, own, own, own + 1, own + 1]) as usize;
+        let places = [0, 1, 9, spans, own, own, own + 1, own + 1, own + 2, own + 2];
+        let place = rng.pick(&places) as usize;
         let near = rng.pick(&[
             0,
             2,
@@ -36,6 +40,7 @@ impl Damage {
             count,
             pre,
             post,
+            THIRDS[0] + 1,
         ]);
         let (any, half) = (rng.word(), 1 << 31);
         let word = rng.pick(&[near, near.wrapping_add(1), near.wrapping_sub(1), half, any]);
@@ -45,10 +50,14 @@ impl Damage {
         Damage { place, word, end }
     }
 
-    /// The same, now and then with a word that is 2^31 more or less: twice a count is then the same in 32 bits.
+    /// The same, now and then with a word that is some thirds of 2^32 more: three times a count is then nearly the same in 32
+    /// bits.
     pub(crate) fn draw_far(rng: &mut Rng, table: &[u32], a: u32) -> Damage {
         let mut damage = Damage::draw(rng, table, a);
-        damage.word ^= u32::from(rng.one_in(6)) << 31;
+        if rng.one_in(6) {
+            let far = rng.pick(&THIRDS) + rng.index(2);
+            damage.word = damage.word.wrapping_add(far);
+        }
         damage
     }
 
@@ -84,14 +93,29 @@ pub(crate) fn some_number(rng: &mut Rng, table: &[u32]) -> u32 {
     }
 }
 
-/// A table of few types and small numbers, so that many spans are equal or have post below pre; with words behind it.
+/// Where the first span of a table begins, behind their count.
+pub(crate) fn first_span(table: &[u32]) -> usize {
+    table[9] as usize + 1
+}
+
+/// A table that load wrote, with two words a span and a first word of 1.
+pub(crate) fn without_lengths(table: &[u32]) -> Vec<u32> {
+    let (before, spans) = table.split_at(first_span(table));
+    let pairs = spans.chunks(3).flat_map(|span| &span[..2]);
+    let mut words: Vec<u32> = before.iter().chain(pairs).copied().collect();
+    (words[0], words[1]) = (1, words.len() as u32);
+    words
+}
+
+/// A table of few types and small numbers, so that many spans are equal or have post below pre; with words behind it. Now and
+/// then it begins with another word than a table does.
 pub(crate) fn invented(rng: &mut Rng) -> Vec<u32> {
     let start = rng.pick(&[10, 10, 11, 14]);
     let (count, most) = (rng.index(MOST_INVENTED + 1), rng.within(2, 7));
     let mut table = vec![0; start];
-    (table[0], table[9]) = (1, start as u32);
+    (table[0], table[9]) = (rng.pick(&[2, 2, 2, 2, 2, 2, 1, 3]), start as u32);
     table.push(count);
-    for _ in 0..2 * count {
+    for _ in 0..3 * count {
         let (small, any) = (rng.index(most), rng.word());
         let large = rng.pick(&[1 << 31, u32::MAX - 1, u32::MAX, any]);
         table.push(if rng.one_in(8) { large } else { small });

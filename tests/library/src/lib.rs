@@ -3,6 +3,7 @@
 mod checker;
 mod damage;
 mod families;
+mod lengths;
 mod lent;
 mod loader;
 mod nearest;

@@ -11,6 +11,9 @@ pub trait Loader: Sync {
     /// 0 and how many types descend from `a`, or 25 and 0 where the words are no linked table.
     fn family_size(&self, table: &[u32], a: u32) -> [u32; 2];
 
+    /// 0 and how many types are on the chain of `t`, or 25 and 0 where the words are no linked table.
+    fn chain_length(&self, table: &[u32], t: u32) -> [u32; 2];
+
     /// 0 and the nearest family of `t` and `u`, 1 and 0 where there is none, or 25 and 0 where the words are no linked table.
     fn nearest(&self, table: &[u32], t: u32, u: u32) -> [u32; 2];
 
@@ -32,6 +35,10 @@ impl Loader for Library {
 
     fn family_size(&self, table: &[u32], a: u32) -> [u32; 2] {
         paqlluri::raw::family_size(table, a)
+    }
+
+    fn chain_length(&self, table: &[u32], t: u32) -> [u32; 2] {
+        paqlluri::raw::chain_length(table, t)
     }
 
     fn nearest(&self, table: &[u32], t: u32, u: u32) -> [u32; 2] {

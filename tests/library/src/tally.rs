@@ -8,7 +8,7 @@ use sheets::BLOCK;
 /// Counts of a run.
 #[derive(Clone, Debug, Default)]
 pub struct Tally {
-    /// Hits by kind, word and code, of cases alone.
+    /// Hits by kind, word, code and longest chain, of cases alone.
     pub coverage: Coverage,
     pub cases: u64,
     /// Cases with a host list over the wanted size.
@@ -27,6 +27,12 @@ pub struct Tally {
     /// Sheets whose structs were counted, and those of them that are kind 1.
     pub counts: u64,
     pub broken: u64,
+    /// Chain lengths that were asked for: of 0, of 1, from 2 to 256, over 256, and kind 25.
+    pub lengths: [u64; 5],
+    /// Chain lengths that were compared with those of a renumbered sheet.
+    pub moved_lengths: u64,
+    /// Tables of two words a span that were asked of.
+    pub without_lengths: u64,
     /// Nearest families that were asked for: those that are found, none, and kind 25.
     pub nearest: [u64; 3],
     /// Accepted sheets of which all pairs were asked for.
@@ -61,6 +67,17 @@ impl Tally {
         self.broken += u64::from(kind == 1);
     }
 
+    pub fn add_length(&mut self, answer: [u32; 2]) {
+        let place = match answer {
+            [0, 0] => 0,
+            [0, 1] => 1,
+            [0, 2..=256] => 2,
+            [0, _] => 3,
+            _ => 4,
+        };
+        self.lengths[place] += 1;
+    }
+
     pub fn add_nearest(&mut self, [kind, _]: [u32; 2]) {
         let place = match kind {
             0 | 1 => kind as usize,
@@ -77,10 +94,18 @@ impl Tally {
     pub fn missed(&self) -> Vec<String> {
         let mut missed = self.coverage.missed();
         let ([found, none, not_linked], [together, apart]) = (self.nearest, self.triples);
+        let [no_chain, of_root, longer, over, no_table] = self.lengths;
         let others = [
             (self.counts - self.broken, "a count of kind 0"),
             (self.broken, "a count of kind 1"),
             (self.not_linked, "a size of kind 25"),
+            (no_chain, "a chain length of 0"),
+            (of_root, "a chain length of 1"),
+            (longer, "a chain length from 2 to 256"),
+            (over, "a chain length over 256, which no load writes"),
+            (no_table, "a chain length of kind 25"),
+            (self.moved_lengths, "a chain length of a renumbered pair"),
+            (self.without_lengths, "a table of two words a span"),
             (found, "a nearest family of kind 0"),
             (none, "a nearest family of kind 1"),
             (not_linked, "a nearest family of kind 25"),
@@ -112,6 +137,9 @@ impl Tally {
         self.not_linked += other.not_linked;
         self.counts += other.counts;
         self.broken += other.broken;
+        add(&mut self.lengths, &other.lengths);
+        self.moved_lengths += other.moved_lengths;
+        self.without_lengths += other.without_lengths;
         add(&mut self.nearest, &other.nearest);
         self.all_pairs += other.all_pairs;
         add(&mut self.triples, &other.triples);
@@ -131,6 +159,7 @@ impl Tally {
             "{} counts of structs agree, {} of them kind 1",
             self.counts, self.broken
         )?;
+        self.fmt_lengths(f)?;
         let ([_, none, not_linked], [_, apart]) = (self.nearest, self.triples);
         let [asked, triples] = [&self.nearest[..], &self.triples].map(|n| n.iter().sum::<u64>());
         writeln!(
@@ -147,6 +176,20 @@ impl Tally {
             f,
             "{} nearest families of renumbered pairs agree",
             self.moved
+        )
+    }
+
+    fn fmt_lengths(&self, f: &mut fmt::Formatter<'_>) -> fmt::Result {
+        let [none, root, _, over, not_linked] = self.lengths;
+        writeln!(
+            f,
+            "{} chain lengths agree, {none} of them 0, {root} of them 1, {over} over 256, {not_linked} kind 25",
+            self.lengths.iter().sum::<u64>()
+        )?;
+        writeln!(
+            f,
+            "{} chain lengths of renumbered pairs agree; {} tables of two words a span are none",
+            self.moved_lengths, self.without_lengths
         )
     }
 }

@@ -1,9 +1,11 @@
-//! Borders at 65,536 fields and registers, and of 24: the library is held to the reference just below, at and past each.
+//! Borders at 65,536 fields and registers, of 256 types on a chain, of 24, and of what is a linked table: the library is held to
+//! the reference just below, at and past each.
 
+use compare::{length_in, nearest_in, query, size_in};
 use generator::{Case, Rng};
 use sheets::build::{aw, func, function, ret_void, strings, structure, user};
-use sheets::{encode_hosts, encode_sheet, needed, op, Sheet, ValueType, DYN, STR};
-use versus::{Checker, Library};
+use sheets::{encode_hosts, encode_sheet, needed, op, Sheet, TypeEntry, ValueType, DYN, STR};
+use versus::{Checker, Library, Loader};
 
 const BORDER: [usize; 3] = [65_535, 65_536, 65_537];
 
@@ -24,10 +26,16 @@ fn agreed(case: &Case) -> [u32; 3] {
     let mut checker = Checker::new(&Library);
     let same = checker.given(&mut Rng::new(1, 1), case);
     assert_eq!(same, Ok(()));
+    let (answer, _) = loaded(case);
+    [answer[0], answer[1], answer[2]]
+}
+
+/// The library's answer, and the table after it.
+fn loaded(case: &Case) -> ([u32; 6], Vec<u32>) {
     let words = |n| vec![0; n as usize];
     let (mut table, mut work) = (words(case.table_len), words(case.work_len));
-    let answer = versus::Loader::load(&Library, &case.sheet, &case.hosts, &mut table, &mut work);
-    [answer[0], answer[1], answer[2]]
+    let answer = Library.load(&case.sheet, &case.hosts, &mut table, &mut work);
+    (answer, table)
 }
 
 fn fields(last: (u32, ValueType), count: usize) -> Sheet {
@@ -99,6 +107,142 @@ fn one_word_too_few_is_short() {
                 ..case(&sheet)
             };
             assert_eq!(agreed(&short)[0], 24);
+        }
+    }
+}
+
+/// Types without members, each with the parent that is given for its number, and a type that is no struct.
+fn forest(structs: u32, parent: impl Fn(u32) -> Option<u32>) -> Sheet {
+    let mut types: Vec<_> = (0..structs).map(|t| structure(parent(t), &[])).collect();
+    types.push(TypeEntry::Coroutine);
+    Sheet {
+        strings: strings(&[""]),
+        types,
+        ..Sheet::default()
+    }
+}
+
+#[test]
+fn a_chain_has_at_most_256_types() {
+    for structs in [1, 2, 255, 256, 257] {
+        let rising = forest(structs, |t| t.checked_sub(1));
+        let falling = forest(structs, |t| (t + 1 < structs).then_some(t + 1));
+        let kind = if structs > 256 { 17 } else { 0 };
+        for sheet in [&rising, &falling] {
+            assert_eq!(agreed(&case(sheet))[0], kind);
+        }
+        if kind != 0 {
+            continue;
+        }
+        let [(_, up), (_, down)] = [&rising, &falling].map(|sheet| loaded(&case(sheet)));
+        for t in 0..structs {
+            assert_eq!(Library.chain_length(&up, t), [0, t + 1]);
+            assert_eq!(Library.chain_length(&down, t), [0, structs - t]);
+        }
+        for t in [structs, structs + 1, structs + 2, u32::MAX] {
+            assert_eq!(Library.chain_length(&up, t), [0, 0]);
+        }
+    }
+}
+
+/// A table of these words from the spans' count on, which stands at this place.
+fn lent(start: usize, count: u32, spans: &[u32]) -> Vec<u32> {
+    let mut table = vec![7; start];
+    (table[0], table[9]) = (2, start as u32);
+    table.push(count);
+    table.extend(spans);
+    table[1] = table.len() as u32;
+    table
+}
+
+/// Every query gives 25 where this is no linked table, and else what its definition says, of known and unknown numbers.
+fn assert_linked(table: &[u32], linked: bool) {
+    for t in [0, 1, 2, 3, 1 << 31, u32::MAX] {
+        let length = Library.chain_length(table, t);
+        assert_eq!(length, length_in(table, t), "{t}: {table:?}");
+        assert_eq!(length[0], if linked { 0 } else { 25 }, "{t}: {table:?}");
+        assert_eq!(
+            Library.family_size(table, t),
+            size_in(table, t),
+            "{t}: {table:?}"
+        );
+        for u in [0, 1, u32::MAX] {
+            assert_eq!(
+                Library.descends(table, t, u),
+                query(table, t, u),
+                "{t}, {u}: {table:?}"
+            );
+            assert_eq!(
+                Library.nearest(table, t, u),
+                nearest_in(table, t, u),
+                "{t}, {u}: {table:?}"
+            );
+        }
+    }
+}
+
+/// Two spans and a third word that no load writes.
+const SPANS: [u32; 6] = [0, 2, 9, 1, 2, u32::MAX];
+
+#[test]
+fn a_table_begins_with_2() {
+    let mut table = lent(10, 2, &SPANS);
+    for first in [0, 1, 2, 3, 4, 1 << 31, u32::MAX] {
+        table[0] = first;
+        assert_linked(&table, first == 2);
+    }
+}
+
+#[test]
+fn spans_have_three_words() {
+    for start in [10, 11, 40] {
+        for words in 0..=SPANS.len() {
+            for count in 0..=3 {
+                let table = lent(start, count, &SPANS[..words]);
+                assert_linked(&table, 3 * count as usize <= words);
+            }
+        }
+        // One word too short, by its own word, by the slice, and by both; words behind it do not matter.
+        let table = lent(start, 2, &SPANS);
+        assert_linked(&table[..table.len() - 1], false);
+        assert_linked(&[&table[..], &[0; 3]].concat(), true);
+        let mut short = table.clone();
+        short[1] -= 1;
+        assert_linked(&short, false);
+        assert_linked(&short[..short.len() - 1], false);
+    }
+    // Two words a span, as a first word of 1 says, or behind a 2.
+    let mut pairs = lent(10, 2, &[0, 2, 1, 2]);
+    for first in [1, 2] {
+        pairs[0] = first;
+        assert_linked(&pairs, false);
+    }
+}
+
+#[test]
+fn counts_do_not_wrap() {
+    let third = 1_431_655_765;
+    let counts = [
+        third - 1,
+        third,
+        third + 1,
+        third + 2,
+        third + 3,
+        1 << 30,
+        (1 << 31) - 1,
+        1 << 31,
+        (1 << 31) + 1,
+    ];
+    // Three times these is 1 and 4 in 32 bits.
+    let two_thirds = [2_863_311_531, 2_863_311_532];
+    for count in counts
+        .into_iter()
+        .chain(two_thirds)
+        .chain([u32::MAX - 1, u32::MAX])
+    {
+        for start in [10, 11, 40] {
+            assert_linked(&lent(start, count, &SPANS), false);
+            assert_linked(&lent(start, count, &[0; 300]), false);
         }
     }
 }

@@ -14,11 +14,14 @@ const PLAN: Plan = Plan {
 /// What is done to an answer and to the slices after it.
 type Alter = fn(&mut [u32; 6], &mut [u32], &mut [u32]);
 
-/// What is done to a family answer.
-type AlterQuery = fn(u32, u32, u32) -> u32;
+/// What is done to a family answer, given the table and the two types.
+type AlterQuery = fn(u32, &[u32], [u32; 2]) -> u32;
 
 /// What is done to a family's size, given the table and the type.
 type AlterSize = fn(&mut [u32; 2], &[u32], u32);
+
+/// What is done to a chain length, given the table and the type.
+type AlterLength = fn(&mut [u32; 2], &[u32], u32);
 
 /// What is done to a nearest family, given the table and the pair.
 type AlterNearest = fn(&mut [u32; 2], &[u32], [u32; 2]);
@@ -30,6 +33,7 @@ struct Wrong {
     load: Alter,
     query: AlterQuery,
     size: AlterSize,
+    length: AlterLength,
     nearest: AlterNearest,
     count: AlterCount,
 }
@@ -39,6 +43,7 @@ const RIGHT: Wrong = Wrong {
     load: |_, _, _| (),
     query: |answer, _, _| answer,
     size: |_, _, _| (),
+    length: |_, _, _| (),
     nearest: |_, _, _| (),
     count: |_, _| (),
 };
@@ -51,12 +56,18 @@ impl Loader for Wrong {
     }
 
     fn descends(&self, table: &[u32], t: u32, a: u32) -> u32 {
-        (self.query)(Library.descends(table, t, a), t, a)
+        (self.query)(Library.descends(table, t, a), table, [t, a])
     }
 
     fn family_size(&self, table: &[u32], a: u32) -> [u32; 2] {
         let mut answer = Library.family_size(table, a);
         (self.size)(&mut answer, table, a);
+        answer
+    }
+
+    fn chain_length(&self, table: &[u32], t: u32) -> [u32; 2] {
+        let mut answer = Library.chain_length(table, t);
+        (self.length)(&mut answer, table, t);
         answer
     }
 
@@ -92,12 +103,11 @@ fn caught_size(size: AlterSize) -> String {
 }
 
 /// Each of these ways is the first to tell it in some case.
-fn assert_caught_nearest(nearest: AlterNearest, ways: &[&str]) {
-    let wrong = Wrong { nearest, ..RIGHT };
+fn assert_caught(wrong: &Wrong, ways: &[&str]) {
     let of_case = |from| {
         let cases = 1;
         run(
-            &wrong,
+            wrong,
             &Plan {
                 from,
                 cases,
@@ -109,6 +119,14 @@ fn assert_caught_nearest(nearest: AlterNearest, ways: &[&str]) {
         let tells = |from| of_case(from).is_err_and(|found| found.what.contains(way));
         assert!((0..PLAN.cases).any(tells), "{way}");
     }
+}
+
+fn assert_caught_nearest(nearest: AlterNearest, ways: &[&str]) {
+    assert_caught(&Wrong { nearest, ..RIGHT }, ways);
+}
+
+fn assert_caught_length(length: AlterLength, ways: &[&str]) {
+    assert_caught(&Wrong { length, ..RIGHT }, ways);
 }
 
 fn caught_count(count: AlterCount) -> String {
@@ -133,6 +151,12 @@ fn the_library_is_not_caught() {
             tally.broken > 20 && tally.counts > 3 * tally.broken,
             "{tally}"
         );
+        assert!(tally.lengths.iter().all(|&n| n > 300), "{tally}");
+        assert!(
+            tally.moved_lengths > 500 && tally.without_lengths > 100,
+            "{tally}"
+        );
+        assert_eq!(tally.without_lengths, tally.accepted);
         assert!(tally.nearest.iter().all(|&n| n > 1_000), "{tally}");
         assert!(tally.triples.iter().all(|&n| n > 400), "{tally}");
         assert!(tally.both_descend > 400 && tally.moved > 1_000, "{tally}");
@@ -157,9 +181,15 @@ fn a_number_of_the_answer() {
 
 #[test]
 fn a_word_of_the_table() {
-    let last: Alter = |n, table, _| {
+    let global: Alter = |n, table, _| {
         if n[0] == 0 {
-            table[n[2] as usize - 1] ^= 1;
+            // The count of the globals that are references.
+            table[table[8] as usize] += 1;
+        }
+    };
+    let post: Alter = |n, table, _| {
+        if n[0] == 0 && has_types(table) {
+            table[n[2] as usize - 2] ^= 1;
         }
     };
     let after: Alter = |n, table, _| {
@@ -177,10 +207,74 @@ fn a_word_of_the_table() {
             table[30] = 0;
         }
     };
-    assert_says(&caught(last), "the reference's");
+    for alter in [global, post] {
+        assert_says(&caught(alter), "by the reference Some");
+    }
     for alter in [after, end, refused] {
         assert_says(&caught(alter), "is changed");
     }
+}
+
+/// Whether a table that load wrote has a span.
+fn has_types(table: &[u32]) -> bool {
+    table[table[9] as usize] > 0
+}
+
+/// Does something to the chain length of each type that load wrote: all behind the first, every third word.
+fn to_lengths(numbers: &[u32; 6], table: &mut [u32], alter: impl Fn(u32) -> u32) {
+    if numbers[0] == 0 {
+        let spans = table[9] as usize;
+        let places = (spans + 3..numbers[2] as usize).step_by(3);
+        places.for_each(|place| table[place] = alter(table[place]));
+    }
+}
+
+#[test]
+fn a_word_of_the_table_that_the_reference_does_not_have() {
+    let first: Alter = |n, table, _| {
+        if n[0] == 0 {
+            table[0] = 1;
+        }
+    };
+    assert_says(
+        &caught(first),
+        "table word 0 is Some(1), by the format Some(2)",
+    );
+    let length: Alter = |n, table, _| {
+        if n[0] == 0 && has_types(table) {
+            table[1] -= 1;
+        }
+    };
+    assert_says(&caught(length), "table word 1 is ");
+    let third: [Alter; 5] = [
+        // From 0 at a root, from 2; one for what is no struct; one too small on long chains alone; none at all.
+        |n, table, _| to_lengths(n, table, |length| length.saturating_sub(1)),
+        |n, table, _| to_lengths(n, table, |length| length + u32::from(length > 0)),
+        |n, table, _| to_lengths(n, table, |length| length.max(1)),
+        |n, table, _| to_lengths(n, table, |length| length.min(254)),
+        |n, table, _| to_lengths(n, table, |_| 0),
+    ];
+    for alter in third {
+        assert_says(&caught(alter), "by declared parents");
+    }
+}
+
+/// The table with two words a span, and L, as a loader without chain lengths would write it.
+#[test]
+fn a_table_without_chain_lengths() {
+    let without: Alter = |n, table, _| {
+        if n[0] == 0 {
+            let spans = table[9] as usize;
+            let types = table[spans];
+            for t in 0..types as usize {
+                let pair = [1, 2].map(|k| table[spans + 3 * t + k]);
+                table[spans + 1 + 2 * t..][..2].copy_from_slice(&pair);
+            }
+            n[2] -= types;
+            table[1] = n[2];
+        }
+    };
+    assert_says(&caught(without), "answered [0, 0, ");
 }
 
 #[test]
@@ -207,17 +301,18 @@ fn a_word_of_work() {
 
 #[test]
 fn a_family_answer() {
-    let alters: [AlterQuery; 5] = [
-        |answer, t, a| if t == a { 0 } else { answer },
-        |answer, t, a| {
-            if (t, a) == (1, 0) {
+    let alters: [AlterQuery; 6] = [
+        |answer, _, [t, a]| if t == a { 0 } else { answer },
+        |answer, _, types| {
+            if types == [1, 0] {
                 1 - answer % 25
             } else {
                 answer
             }
         },
-        |answer, t, _| if t == u32::MAX { 1 } else { answer },
+        |answer, _, [t, _]| if t == u32::MAX { 1 } else { answer },
         |answer, _, _| answer.min(1),
+        |answer, table, _| answer % (25 + u32::from(!is_linked_in_32_bits(table))),
         |_, _, _| 0,
     ];
     for alter in alters {
@@ -231,7 +326,7 @@ fn span(table: &[u32], a: u32) -> Option<(u32, u32)> {
         return None;
     };
     let spans = table[9] as usize;
-    let own = spans + 1 + 2 * a as usize;
+    let own = spans + 1 + 3 * a as usize;
     (a < table[spans]).then(|| (table[own], table[own + 1]))
 }
 
@@ -253,9 +348,11 @@ fn a_size_of_a_family() {
 
 #[test]
 fn a_size_on_words_that_no_load_wrote() {
-    let altered: [AlterSize; 4] = [
-        // 25 missed, and given where post is below pre; a difference that wraps, and one that is turned round.
-        |size, table, _| size[0] *= u32::from(table.first() != Some(&1)),
+    let altered: [AlterSize; 5] = [
+        // 25 missed, also where a sum wraps, and given where post is below pre; a difference that wraps, and one that is turned
+        // round.
+        |size, table, _| size[0] *= u32::from(table.first() != Some(&2)),
+        |size, table, _| size[0] %= 25 + u32::from(!is_linked_in_32_bits(table)),
         |size, table, a| {
             if span(table, a).is_some_and(|(pre, post)| post < pre && pre < u32::MAX) {
                 *size = [25, 0];
@@ -378,10 +475,10 @@ fn a_nearest_family_on_words_that_no_load_wrote() {
 
 /// Whether the words would be a linked table if the end of the spans were a sum in 32 bits.
 fn is_linked_in_32_bits(table: &[u32]) -> bool {
-    let Some(&[1, length, .., start]) = table.first_chunk::<10>() else {
+    let Some(&[2, length, .., start]) = table.first_chunk::<10>() else {
         return false;
     };
-    let end = |count: &u32| count.wrapping_mul(2).wrapping_add(start + 1);
+    let end = |count: &u32| count.wrapping_mul(3).wrapping_add(start + 1);
     let fits = |count| end(count) <= length;
     length as usize <= table.len() && start >= 10 && table.get(start as usize).is_some_and(fits)
 }
@@ -390,7 +487,7 @@ fn is_linked_in_32_bits(table: &[u32]) -> bool {
 fn a_nearest_family_where_there_is_no_table() {
     let alters: [AlterNearest; 3] = [
         // 25 missed, where the first word is as it is to be, and where a sum wraps; 25 behind numbers that no type has.
-        |nearest, table, _| nearest[0] %= 25 + u32::from(table.first() != Some(&1)),
+        |nearest, table, _| nearest[0] %= 25 + u32::from(table.first() != Some(&2)),
         |nearest, table, _| nearest[0] %= 25 + u32::from(!is_linked_in_32_bits(table)),
         |nearest, _, types| {
             if types.contains(&u32::MAX) {
@@ -401,7 +498,150 @@ fn a_nearest_family_where_there_is_no_table() {
     for alter in alters {
         assert_caught_nearest(alter, &["altered"]);
     }
-    assert_caught_nearest(|nearest, _, _| nearest[0] %= 25, &["altered", "left alone"]);
+    assert_caught_nearest(
+        |nearest, _, _| nearest[0] %= 25,
+        &["first word 1", "left alone"],
+    );
+}
+
+/// Post of a known type; 0 of any other number.
+fn post(table: &[u32], t: u32) -> u32 {
+    span(table, t).map_or(0, |(_, post)| post)
+}
+
+#[test]
+fn a_chain_length() {
+    let declared: [AlterLength; 9] = [
+        // That of the first type; post and pre in its place; the parent's, which is a root's own; one too small, and too large.
+        |length, table, _| length[1] = Library.chain_length(table, 0)[1],
+        |length, table, t| length[1] = post(table, t),
+        |length, table, t| length[1] = span(table, t).map_or(0, |(pre, _)| pre),
+        |length, _, _| length[1] -= u32::from(length[1] > 1),
+        |length, _, _| length[1] = length[1].saturating_sub(1),
+        |length, _, _| length[1] += u32::from(length[1] > 0),
+        // One for what is no struct; not 0, and 25, for what is no type.
+        |length, _, _| length[1] = length[1].max(1),
+        |length, table, t| length[1] += u32::from(length[0] == 0 && span(table, t).is_none()),
+        |length, table, t| {
+            if span(table, t).is_none() {
+                *length = [25, 0];
+            }
+        },
+    ];
+    for alter in declared {
+        assert_caught_length(alter, &["chain length of", "declared"]);
+    }
+    // Not that of the type itself in the other sheet of a pair.
+    let by_number: AlterLength = |length, _, t| length[1] = t;
+    assert_caught_length(by_number, &["declared", "renumbered"]);
+}
+
+#[test]
+fn a_chain_length_on_words_that_no_load_wrote() {
+    let alters: [AlterLength; 4] = [
+        // At most 256; 25 above; 0 where pre is that of no struct, and where the span is empty.
+        |length, _, _| length[1] = length[1].min(256),
+        |length, _, _| {
+            if length[1] > 256 {
+                *length = [25, 0];
+            }
+        },
+        |length, table, t| {
+            if span(table, t).is_some_and(|(pre, _)| pre == u32::MAX) {
+                length[1] = 0;
+            }
+        },
+        |length, table, t| {
+            if span(table, t).is_some_and(|(pre, post)| pre >= post) {
+                length[1] = 0;
+            }
+        },
+    ];
+    for alter in alters {
+        assert_caught_length(alter, &["altered", "invented", "by the word there"]);
+    }
+}
+
+/// The third word of a span of three, or 0, whatever the first word is.
+fn length_behind_any_first_word(table: &[u32], t: u32) -> [u32; 2] {
+    let Some(rest) = table.get(1..) else {
+        return [25, 0];
+    };
+    Library.chain_length(&[&[2], rest].concat(), t)
+}
+
+/// Whether the words are a table of two words a span behind a first word of 1.
+fn is_without_lengths(table: &[u32]) -> bool {
+    let Some(&[1, length, .., start]) = table.first_chunk::<10>() else {
+        return false;
+    };
+    let fits = |&count: &u32| u64::from(start) + 1 + 2 * u64::from(count) == u64::from(length);
+    length as usize == table.len() && start >= 10 && table.get(start as usize).is_some_and(fits)
+}
+
+#[test]
+fn a_chain_length_where_there_is_no_table() {
+    // 25 as 0 0, always, where a sum wraps, and behind numbers that no type has.
+    assert_caught_length(
+        |length, _, _| length[0] = 0,
+        &["altered", "left alone", "first word 1"],
+    );
+    let behind: AlterLength = |length, _, t| {
+        if t == u32::MAX {
+            *length = [0, 0];
+        }
+    };
+    assert_caught_length(behind, &["altered", "left alone", "first word 1"]);
+    let wraps: AlterLength =
+        |length, table, _| length[0] %= 25 + u32::from(!is_linked_in_32_bits(table));
+    assert_caught_length(wraps, &["altered"]);
+    // Another first word taken, or one that is larger, with three words a span; and a table of two words a span.
+    let any_first: AlterLength =
+        |length, table, t| *length = length_behind_any_first_word(table, t);
+    assert_caught_length(any_first, &["altered", "first word 1"]);
+    let larger: AlterLength = |length, table, t| {
+        if table.first() > Some(&2) {
+            *length = length_behind_any_first_word(table, t);
+        }
+    };
+    assert_caught_length(larger, &["altered", "first word 3"]);
+    let without: AlterLength = |length, table, _| {
+        if is_without_lengths(table) {
+            *length = [0, 0];
+        }
+    };
+    assert_caught_length(without, &["two words a span: "]);
+}
+
+#[test]
+fn a_query_that_reads_chain_lengths() {
+    // What holds of tables that load wrote, and of no others: who descends has no shorter chain,
+    let query: AlterQuery = |answer, table, types| {
+        let [[_, of_t], [_, of_a]] = types.map(|t| Library.chain_length(table, t));
+        if answer == 1 && of_t < of_a {
+            return 0;
+        }
+        answer
+    };
+    assert_caught(&Wrong { query, ..RIGHT }, &["beside other chain lengths"]);
+    // who has no chain has no family,
+    let size: AlterSize = |size, table, a| size[1] *= u32::from(is_likely(table, a));
+    assert_caught(&Wrong { size, ..RIGHT }, &["beside other chain lengths"]);
+    // and the nearest of two has the longest chain.
+    let longest: AlterNearest = |nearest, table, types| {
+        let length = |&(a, _): &Spanned| Library.chain_length(table, a)[1];
+        let family = holding(table, types).into_iter().max_by_key(length);
+        if nearest[0] != 25 {
+            *nearest = family.map_or([1, 0], |(a, _)| [0, a]);
+        }
+    };
+    assert_caught_nearest(longest, &["beside other chain lengths", "invented"]);
+}
+
+/// Whether a chain length is one that load writes.
+fn is_likely(table: &[u32], t: u32) -> bool {
+    let [_, length] = Library.chain_length(table, t);
+    (1..=256).contains(&length)
 }
 
 /// The kind of load's answer, with words enough, under the host list of the samples.

@@ -75,6 +75,13 @@ fn counts_and_sizes_fit_the_small_stack() {
 }
 
 #[test]
+fn chain_lengths_fit_the_small_stack() {
+    let table = table(&chain(256));
+    let lengths = move || [0, 255, 256].map(|t| Library.chain_length(&table, t));
+    assert_eq!(on(STACK, lengths), [[0, 1], [0, 256], [0, 0]]);
+}
+
+#[test]
 fn nearest_families_fit_the_small_stack() {
     let table_of_chain = table(&chain(256));
     let nearest = move || [0, 255, 256].map(|u| Library.nearest(&table_of_chain, 255, u));

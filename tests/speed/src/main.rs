@@ -15,6 +15,7 @@ const USAGE: &str = "usage:
   speed SHAPE                        one of them
   speed descends                     the family query
   speed sizes                        the size of a family
+  speed lengths                      the length of a chain
   speed nearest                      the nearest family of two types
   speed report                       what the report asks of a sheet
   speed shapes                       their names and largest sizes
@@ -65,7 +66,7 @@ impl Lent {
         let words = self.table.len() as u32;
         let (sheet, hosts) = (black_box(&self.sheet), black_box(&self.hosts));
         let loaded = compare::load(sheet, hosts, words, words);
-        loaded.expect("an accepted sheet").0
+        loaded.expect("an accepted sheet").program
     }
 }
 
@@ -166,6 +167,7 @@ fn run(args: &[String]) -> Option<()> {
         }
         ["descends"] => queries::descends(shape("chains")?),
         ["sizes"] => queries::sizes(shape("chains")?),
+        ["lengths"] => queries::lengths(shape("chains")?),
         ["nearest"] => queries::nearest(shape("chains")?),
         ["report"] => {
             println!(

@@ -51,13 +51,35 @@ pub fn descends(shape: &Shape) {
     }
 }
 
+/// The answers about types of n, added up.
+fn added(n: usize, answer: impl Fn(u32) -> u32) -> u64 {
+    let answer = |k| u64::from(answer(spread(k, n)));
+    (0..QUERIES).map(answer).sum()
+}
+
 pub fn sizes(shape: &Shape) {
     for n in steps(shape.most) {
         let mut lent = Lent::new(shape, n);
         let linked = lent.ours();
-        let size = |k: u32| u64::from(linked.family_size(TypeId(spread(k, n))));
-        let time = each(QUERIES, || (0..QUERIES).map(size).sum::<u64>());
+        let time = each(QUERIES, || added(n, |a| linked.family_size(TypeId(a))));
         println!("| sizes | {n} | {time:.1} |");
+    }
+}
+
+/// Beside it what a user of program.rs would write: the chain walked and counted.
+pub fn lengths(shape: &Shape) {
+    for n in steps(shape.most) {
+        let mut lent = Lent::new(shape, n);
+        let program = lent.rust();
+        let linked = lent.ours();
+        let ours = || added(n, |t| linked.chain_length(TypeId(t)));
+        let walked = || added(n, |t| chain(&program, t).count() as u32);
+        assert_eq!(ours(), walked(), "the answers differ");
+        let (mine, theirs) = (each(QUERIES, ours), each(QUERIES, walked));
+        println!(
+            "| lengths | {n} | {mine:.1} | {theirs:.1} | {:.2} |",
+            theirs / mine
+        );
     }
 }
 

@@ -1,5 +1,6 @@
 -- `query::known_width` meets its contract.
 use borrow.Author.Needs.{needs}
+use native.Mathlib.Omega.{arith}
 use Rattle.query.proofs.SizeSteps.{known, span-inside}
 use Rattle.query.proofs.known_width.Statement.{statement}
 use Rattle.query.proofs.known_width.Tie as tie
@@ -13,7 +14,8 @@ word-at-requires c κs = search (needs, known)
 width-at-requires : tie.Need-width-at-requires
 width-at-requires c κs =
     let start = c .before .before in
-    span-inside _ _ (start .before .before .pre) (start .at .ensures) (c .before .word-at .ensures .0) (c .if1 .left)
+    let i = span-inside _ _ (start .before .before .pre) (start .at .ensures) (c .before .word-at .ensures .0) (c .if1 .left) in
+    (i .0, omega (arith, i .1))
 
 returns : tie.Need-returns
 returns c = search (needs, known)

@@ -6,350 +6,182 @@ use Rattle.blocks.specs.Frame.{firstWords}
 use Rattle.open_layout.specs.Opened.{moduleIn}
 use Rattle.parents.specs.Parents.{mostOnChain}
 use Rattle.table_spans.specs.Walked.{Walking}
-use Rattle.table_spans.proofs.WalkSteps.{head-room, walk-start, walk-end, entering, entered-room, entered, leaving, sibling-room, rising, walk-next}
+use Rattle.table_spans.proofs.WalkSteps.{head-room, walk-start, walk-end, left-some, left-few, clock-few, entered}
+use Rattle.table_spans.proofs.WalkSteps.{sibling-room, rising, span-room, after-few, walk-next}
 use borrow.Fn.Kinds.{In}
 use borrow.Fn.PlainCycle.{Measures, is, falls, and}
 use Rattle.table_spans.proofs.visit.Reads as visit
 use Rattle.table_spans.proofs.visit.Kinds as visit-kinds
-use Rattle.table_spans.proofs.+visit.Lts-visit as visit-lts
-use Rattle.region.proofs.put.Reads as put-reads
+use Rattle.table_spans.proofs.+visit.Lts-visit as lts
 use Rattle.region.proofs.widen.Reads as widen-reads
+use Rattle.table_spans.proofs.store_span.Reads as store-span-reads
 use Rattle.table_spans.proofs.+visit.{statement}
 use Rattle.table_spans.proofs.+visit.Tie.{close}
 
+-- the steps that are left
 abbrev μ-visit : Measures 3 visit-kinds.ps ℕ
 μ-visit κs a = a .1 .1 .1 .1 .1 .1 .1 .0
 
-abbrev visit-at : ℕ → In 3 visit-kinds.ps
-visit-at t = and 3 visit-kinds.ps (is 3 visit-kinds.ps μ-visit t) visit.Pre
+abbrev pre-at : ℕ → In 3 visit-kinds.ps
+pre-at n = and 3 visit-kinds.ps (is 3 visit-kinds.ps μ-visit n) visit.Pre
 
-abbrev visit-below : ℕ → In 3 visit-kinds.ps
-visit-below t = and 3 visit-kinds.ps (falls 3 visit-kinds.ps _<_ μ-visit t) visit.Pre
+abbrev pre-below : ℕ → In 3 visit-kinds.ps
+pre-below n = and 3 visit-kinds.ps (falls 3 visit-kinds.ps _<_ μ-visit n) visit.Pre
 
-abbrev visit-Inv-loop : visit-lts.InvT-loop
-visit-Inv-loop sheet work o table₀ at list clock left now₀ t₀ table now t = Walking mostOnChain (moduleIn (firstWords sheet (o .layout .words)) .types) at list left clock table₀ table t now
+abbrev calls : ℕ → lts.Claims
+calls n = (widen-reads.Asked, widen-reads.Learnt, pre-below n, visit.Post, store-span-reads.Asked, store-span-reads.Learnt)
 
-abbrev visit-μ-loop : visit-lts.MeasureT-loop
-visit-μ-loop sheet work o table₀ at list clock left now₀ t₀ table now t = o .counts .types - t
+abbrev Inv-loop : lts.InvT-loop
+Inv-loop sheet work o table₀ at list clock left now₀ t₀ table now t =
+    Walking mostOnChain (moduleIn (firstWords sheet (o .layout .words)) .types) o work at list left clock table₀ table t now
 
-visit-mul-widen : (t : ℕ) → visit-lts.Need-mul-widen (
-  widen-reads.Asked,
-  widen-reads.Learnt,
-  put-reads.Asked,
-  put-reads.Learnt,
-  visit-below t,
-  visit.Post,
-) (visit-at t) visit.Post visit-Inv-loop visit-μ-loop
-visit-mul-widen t c = omega (arith, head-room _ _ _ (c .before .before .before .before .pre .1 .0) _ (c .before .before .before .before .pre .1 .1 .1 .0), c .before .before .before .before .good .1 .0)
+abbrev μ-loop : lts.MeasureT-loop
+μ-loop sheet work o table₀ at list clock left now₀ t₀ table now t = o .counts .types - t
 
-visit-add-widen : (t : ℕ) → visit-lts.Need-add-widen (
-  widen-reads.Asked,
-  widen-reads.Learnt,
-  put-reads.Asked,
-  put-reads.Learnt,
-  visit-below t,
-  visit.Post,
-) (visit-at t) visit.Post visit-Inv-loop visit-μ-loop
-visit-add-widen t c = omega (arith, head-room _ _ _ (c .before .before .before .before .pre .1 .0) _ (c .before .before .before .before .pre .1 .1 .1 .0), c .before .before .before .before .good .1 .0)
+-- n steps are left; `turn` is the place behind the loop's test, `start` the function's
+module _ (n : ℕ) where
+  mul-widen : lts.Need-mul-widen (calls n) (pre-at n) visit.Post Inv-loop μ-loop
+  mul-widen c = search (needs, head-room)
 
-visit-mul-widen-2 : (t : ℕ) → visit-lts.Need-mul-widen-2 (
-  widen-reads.Asked,
-  widen-reads.Learnt,
-  put-reads.Asked,
-  put-reads.Learnt,
-  visit-below t,
-  visit.Post,
-) (visit-at t) visit.Post visit-Inv-loop visit-μ-loop
-visit-mul-widen-2 t c = search (needs, head-room _ _ _ (c .before .before .before .before .pre .1 .0) _ (c .before .before .before .before .pre .1 .1 .1 .0))
+  add-widen : lts.Need-add-widen (calls n) (pre-at n) visit.Post Inv-loop μ-loop
+  add-widen c = search (needs, head-room)
 
-visit-shared-slice-read-widen : (t : ℕ) → visit-lts.Need-shared-slice-read-widen (
-  widen-reads.Asked,
-  widen-reads.Learnt,
-  put-reads.Asked,
-  put-reads.Learnt,
-  visit-below t,
-  visit.Post,
-) (visit-at t) visit.Post visit-Inv-loop visit-μ-loop
-visit-shared-slice-read-widen t c = head-room _ _ _ (c .before .before .before .before .before .pre .1 .0) _ (c .before .before .before .before .before .pre .1 .1 .1 .0)
+  mul-widen-2 : lts.Need-mul-widen-2 (calls n) (pre-at n) visit.Post Inv-loop μ-loop
+  mul-widen-2 c = search (needs, head-room)
 
-visit-widen-requires : (t : ℕ) → visit-lts.Need-widen-requires (
-  widen-reads.Asked,
-  widen-reads.Learnt,
-  put-reads.Asked,
-  put-reads.Learnt,
-  visit-below t,
-  visit.Post,
-) (visit-at t) visit.Post visit-Inv-loop visit-μ-loop
-visit-widen-requires t c κs = search needs
+  shared-slice-read-widen : lts.Need-shared-slice-read-widen (calls n) (pre-at n) visit.Post Inv-loop μ-loop
+  shared-slice-read-widen c = search (needs, head-room)
 
-visit-loop-holds : (t : ℕ) → visit-lts.Need-loop-holds (
-  widen-reads.Asked,
-  widen-reads.Learnt,
-  put-reads.Asked,
-  put-reads.Learnt,
-  visit-below t,
-  visit.Post,
-) (visit-at t) visit.Post visit-Inv-loop visit-μ-loop
-visit-loop-holds t c = walk-start _ _ _ (c .before .before .before .before .before .before .pre .1 .0) _ (c .before .before .before .before .before .before .pre .1 .1 .1 .0) _ _ _ _ _ (c .widen .ensures)
+  widen-requires : lts.Need-widen-requires (calls n) (pre-at n) visit.Post Inv-loop μ-loop
+  widen-requires c κs = search needs
 
-visit-cast-if1 : (t : ℕ) → visit-lts.Need-cast-if1 (
-  widen-reads.Asked,
-  widen-reads.Learnt,
-  put-reads.Asked,
-  put-reads.Learnt,
-  visit-below t,
-  visit.Post,
-) (visit-at t) visit.Post visit-Inv-loop visit-μ-loop
-visit-cast-if1 t c = search needs
+  loop-holds : lts.Need-loop-holds (calls n) (pre-at n) visit.Post Inv-loop μ-loop
+  loop-holds c = search (needs, walk-start)
 
-visit-add-put : (t : ℕ) → visit-lts.Need-add-put (
-  widen-reads.Asked,
-  widen-reads.Learnt,
-  put-reads.Asked,
-  put-reads.Learnt,
-  visit-below t,
-  visit.Post,
-) (visit-at t) visit.Post visit-Inv-loop visit-μ-loop
-visit-add-put t c = omega (arith, entering _ _ _ (c .before .before .before .before .before .before .before .before .before .before .pre .1 .0) _ _ _ _ (c .before .before .before .before .before .before .before .before .before .before .pre .1 .1 .0) _ (c .before .before .before .before .before .before .before .before .before .before .pre .1 .1 .1 .1) _ _ _ (c .before .before .before .loop .inv) (c .before .if1 .taken), c .before .before .before .before .before .before .before .before .before .before .good .1 .1 .1 .0)
+  cast-if1 : lts.Need-cast-if1 (calls n) (pre-at n) visit.Post Inv-loop μ-loop
+  cast-if1 c = search needs
 
-visit-mul-put : (t : ℕ) → visit-lts.Need-mul-put (
-  widen-reads.Asked,
-  widen-reads.Learnt,
-  put-reads.Asked,
-  put-reads.Learnt,
-  visit-below t,
-  visit.Post,
-) (visit-at t) visit.Post visit-Inv-loop visit-μ-loop
-visit-mul-put t c = omega (arith, entering _ _ _ (c .before .before .before .before .before .before .before .before .before .before .pre .1 .0) _ _ _ _ (c .before .before .before .before .before .before .before .before .before .before .pre .1 .1 .0) _ (c .before .before .before .before .before .before .before .before .before .before .pre .1 .1 .1 .1) _ _ _ (c .before .before .before .loop .inv) (c .before .if1 .taken), c .before .before .before .before .before .before .before .before .before .before .good .1 .1 .1 .0)
+  add-visit : lts.Need-add-visit (calls n) (pre-at n) visit.Post Inv-loop μ-loop
+  add-visit c = search (needs, clock-few)
 
-visit-add-put-2 : (t : ℕ) → visit-lts.Need-add-put-2 (
-  widen-reads.Asked,
-  widen-reads.Learnt,
-  put-reads.Asked,
-  put-reads.Learnt,
-  visit-below t,
-  visit.Post,
-) (visit-at t) visit.Post visit-Inv-loop visit-μ-loop
-visit-add-put-2 t c = omega (arith, entering _ _ _ (c .before .before .before .before .before .before .before .before .before .before .pre .1 .0) _ _ _ _ (c .before .before .before .before .before .before .before .before .before .before .pre .1 .1 .0) _ (c .before .before .before .before .before .before .before .before .before .before .pre .1 .1 .1 .1) _ _ _ (c .before .before .before .loop .inv) (c .before .if1 .taken), c .before .before .before .before .before .before .before .before .before .before .good .1 .1 .1 .0)
+  add-visit-2 : lts.Need-add-visit-2 (calls n) (pre-at n) visit.Post Inv-loop μ-loop
+  add-visit-2 c =
+      let turn = c .before in
+      omega (arith, clock-few (turn .before .before .loop .inv) (turn .if1 .taken), turn .before .struct-known2 .given)
 
-visit-put-requires : (t : ℕ) → visit-lts.Need-put-requires (
-  widen-reads.Asked,
-  widen-reads.Learnt,
-  put-reads.Asked,
-  put-reads.Learnt,
-  visit-below t,
-  visit.Post,
-) (visit-at t) visit.Post visit-Inv-loop visit-μ-loop
-visit-put-requires t c κs = omega (arith, entering _ _ _ (c .before .before .before .before .before .before .before .before .before .before .pre .1 .0) _ _ _ _ (c .before .before .before .before .before .before .before .before .before .before .pre .1 .1 .0) _ (c .before .before .before .before .before .before .before .before .before .before .pre .1 .1 .1 .1) _ _ _ (c .before .before .before .loop .inv) (c .before .if1 .taken), c .before .before .struct-known2 .given)
+  sub-visit : lts.Need-sub-visit (calls n) (pre-at n) visit.Post Inv-loop μ-loop
+  sub-visit c = search (needs, left-some)
 
-visit-add-visit : (t : ℕ) → visit-lts.Need-add-visit (
-  widen-reads.Asked,
-  widen-reads.Learnt,
-  put-reads.Asked,
-  put-reads.Learnt,
-  visit-below t,
-  visit.Post,
-) (visit-at t) visit.Post visit-Inv-loop visit-μ-loop
-visit-add-visit t c = omega (arith, c .before .before .before .before .before .if1 .taken, c .before .before .before .before .before .before .struct-known2 .given)
+  visit-requires : lts.Need-visit-requires (calls n) (pre-at n) visit.Post Inv-loop μ-loop
+  visit-requires c κs =
+      let turn = c .before in
+      let start = turn .before .before .before .before .before .before .before .before .before in
+      let y = turn .before .before .loop .inv in
+      let h = turn .if1 .taken in
+      (omega (arith, left-some y h, start .pre .0), (y .linked, (entered y h, (omega (arith, h), omega arith))))
 
-visit-add-visit-2 : (t : ℕ) → visit-lts.Need-add-visit-2 (
-  widen-reads.Asked,
-  widen-reads.Learnt,
-  put-reads.Asked,
-  put-reads.Learnt,
-  visit-below t,
-  visit.Post,
-) (visit-at t) visit.Post visit-Inv-loop visit-μ-loop
-visit-add-visit-2 t c = omega (arith, entering _ _ _ (c .before .before .before .before .before .before .before .before .before .before .before .before .before .before .pre .1 .0) _ _ _ _ (c .before .before .before .before .before .before .before .before .before .before .before .before .before .before .pre .1 .1 .0) _ (c .before .before .before .before .before .before .before .before .before .before .before .before .before .before .pre .1 .1 .1 .1) _ _ _ (c .before .before .before .before .before .before .before .loop .inv) (c .before .before .before .before .before .if1 .taken), c .before .before .before .before .before .before .struct-known2 .given)
+  add-store-span : lts.Need-add-store-span (calls n) (pre-at n) visit.Post Inv-loop μ-loop
+  add-store-span c =
+      let turn = c .before .before .before .before .before in
+      let start = turn .before .before .before .before .before .before .before .before .before in
+      omega (arith, turn .before .before .loop .inv .room, turn .if1 .taken, start .good .1 .1 .1 .0)
 
-visit-sub-visit : (t : ℕ) → visit-lts.Need-sub-visit (
-  widen-reads.Asked,
-  widen-reads.Learnt,
-  put-reads.Asked,
-  put-reads.Learnt,
-  visit-below t,
-  visit.Post,
-) (visit-at t) visit.Post visit-Inv-loop visit-μ-loop
-visit-sub-visit t c = omega (arith, entering _ _ _ (c .before .before .before .before .before .before .before .before .before .before .before .before .before .before .pre .1 .0) _ _ _ _ (c .before .before .before .before .before .before .before .before .before .before .before .before .before .before .pre .1 .1 .0) _ (c .before .before .before .before .before .before .before .before .before .before .before .before .before .before .pre .1 .1 .1 .1) _ _ _ (c .before .before .before .before .before .before .before .loop .inv) (c .before .before .before .before .before .if1 .taken))
+  mul-store-span : lts.Need-mul-store-span (calls n) (pre-at n) visit.Post Inv-loop μ-loop
+  mul-store-span c =
+      let turn = c .before .before .before .before .before in
+      let start = turn .before .before .before .before .before .before .before .before .before in
+      omega (arith, turn .before .before .loop .inv .room, turn .if1 .taken, start .good .1 .1 .1 .0)
 
-visit-visit-requires : (t : ℕ) → visit-lts.Need-visit-requires (
-  widen-reads.Asked,
-  widen-reads.Learnt,
-  put-reads.Asked,
-  put-reads.Learnt,
-  visit-below t,
-  visit.Post,
-) (visit-at t) visit.Post visit-Inv-loop visit-μ-loop
-visit-visit-requires t c κs = (omega (arith, entering _ _ _ (c .before .before .before .before .before .before .before .before .before .before .before .before .before .before .pre .1 .0) _ _ _ _ (c .before .before .before .before .before .before .before .before .before .before .before .before .before .before .pre .1 .1 .0) _ (c .before .before .before .before .before .before .before .before .before .before .before .before .before .before .pre .1 .1 .1 .1) _ _ _ (c .before .before .before .before .before .before .before .loop .inv) (c .before .before .before .before .before .if1 .taken), c .before .before .before .before .before .before .before .before .before .before .before .before .before .before .pre .0), (c .before .before .before .before .before .before .before .before .before .before .before .before .before .before .pre .1 .0, (entered _ _ _ (c .before .before .before .before .before .before .before .before .before .before .before .before .before .before .pre .1 .0) _ _ _ _ (c .before .before .before .before .before .before .before .before .before .before .before .before .before .before .pre .1 .1 .0) _ (c .before .before .before .before .before .before .before .before .before .before .before .before .before .before .pre .1 .1 .1 .1) _ _ _ (c .before .before .before .before .before .before .before .loop .inv) (c .before .before .before .before .before .if1 .taken), (omega (arith, c .before .before .before .before .before .if1 .taken), entered-room _ _ _ (c .before .before .before .before .before .before .before .before .before .before .before .before .before .before .pre .1 .0) _ _ _ _ (c .before .before .before .before .before .before .before .before .before .before .before .before .before .before .pre .1 .1 .0) _ (c .before .before .before .before .before .before .before .before .before .before .before .before .before .before .pre .1 .1 .1 .1) _ _ _ (c .before .before .before .before .before .before .before .loop .inv) (c .before .before .before .before .before .if1 .taken) _ (c .before .before .before .put .ensures)))))
+  add-store-span-2 : lts.Need-add-store-span-2 (calls n) (pre-at n) visit.Post Inv-loop μ-loop
+  add-store-span-2 c =
+      let turn = c .before .before .before .before .before in
+      let start = turn .before .before .before .before .before .before .before .before .before in
+      omega (arith, turn .before .before .loop .inv .room, turn .if1 .taken, start .good .1 .1 .1 .0)
 
-visit-add-put-3 : (t : ℕ) → visit-lts.Need-add-put-3 (
-  widen-reads.Asked,
-  widen-reads.Learnt,
-  put-reads.Asked,
-  put-reads.Learnt,
-  visit-below t,
-  visit.Post,
-) (visit-at t) visit.Post visit-Inv-loop visit-μ-loop
-visit-add-put-3 t c = omega (arith, entering _ _ _ (c .before .before .before .before .before .before .before .before .before .before .before .before .before .before .before .before .before .before .pre .1 .0) _ _ _ _ (c .before .before .before .before .before .before .before .before .before .before .before .before .before .before .before .before .before .before .pre .1 .1 .0) _ (c .before .before .before .before .before .before .before .before .before .before .before .before .before .before .before .before .before .before .pre .1 .1 .1 .1) _ _ _ (c .before .before .before .before .before .before .before .before .before .before .before .loop .inv) (c .before .before .before .before .before .before .before .before .before .if1 .taken), c .before .before .before .before .before .before .before .before .before .before .before .before .before .before .before .before .before .before .good .1 .1 .1 .0)
+  sub-store-span : lts.Need-sub-store-span (calls n) (pre-at n) visit.Post Inv-loop μ-loop
+  sub-store-span c =
+      let turn = c .before .before .before .before .before in
+      omega (arith, left-few (turn .before .before .loop .inv) (turn .if1 .taken))
 
-visit-mul-put-2 : (t : ℕ) → visit-lts.Need-mul-put-2 (
-  widen-reads.Asked,
-  widen-reads.Learnt,
-  put-reads.Asked,
-  put-reads.Learnt,
-  visit-below t,
-  visit.Post,
-) (visit-at t) visit.Post visit-Inv-loop visit-μ-loop
-visit-mul-put-2 t c = omega (arith, entering _ _ _ (c .before .before .before .before .before .before .before .before .before .before .before .before .before .before .before .before .before .before .pre .1 .0) _ _ _ _ (c .before .before .before .before .before .before .before .before .before .before .before .before .before .before .before .before .before .before .pre .1 .1 .0) _ (c .before .before .before .before .before .before .before .before .before .before .before .before .before .before .before .before .before .before .pre .1 .1 .1 .1) _ _ _ (c .before .before .before .before .before .before .before .before .before .before .before .loop .inv) (c .before .before .before .before .before .before .before .before .before .if1 .taken), c .before .before .before .before .before .before .before .before .before .before .before .before .before .before .before .before .before .before .good .1 .1 .1 .0)
+  store-span-requires : lts.Need-store-span-requires (calls n) (pre-at n) visit.Post Inv-loop μ-loop
+  store-span-requires c κs =
+      let turn = c .before .before .before .before .before in
+      let y = turn .before .before .loop .inv in
+      let h = turn .if1 .taken in
+      let below = c .before .before .before .visit .ensures in
+      let few = turn .before .struct-known2 .given in
+      let room = span-room y h _ _ (below .0) (below .1) in
+      let after = after-few y h _ _ (below .0) (below .1) in
+      (room, (omega (arith, clock-few y h, few), (omega (arith, after, few), omega arith)))
 
-visit-add-put-4 : (t : ℕ) → visit-lts.Need-add-put-4 (
-  widen-reads.Asked,
-  widen-reads.Learnt,
-  put-reads.Asked,
-  put-reads.Learnt,
-  visit-below t,
-  visit.Post,
-) (visit-at t) visit.Post visit-Inv-loop visit-μ-loop
-visit-add-put-4 t c = omega (arith, entering _ _ _ (c .before .before .before .before .before .before .before .before .before .before .before .before .before .before .before .before .before .before .pre .1 .0) _ _ _ _ (c .before .before .before .before .before .before .before .before .before .before .before .before .before .before .before .before .before .before .pre .1 .1 .0) _ (c .before .before .before .before .before .before .before .before .before .before .before .before .before .before .before .before .before .before .pre .1 .1 .1 .1) _ _ _ (c .before .before .before .before .before .before .before .before .before .before .before .loop .inv) (c .before .before .before .before .before .before .before .before .before .if1 .taken), c .before .before .before .before .before .before .before .before .before .before .before .before .before .before .before .before .before .before .good .1 .1 .1 .0)
+  mul-widen-3 : lts.Need-mul-widen-3 (calls n) (pre-at n) visit.Post Inv-loop μ-loop
+  mul-widen-3 c =
+      let turn = c .before .before .before .before .before .before .before .before .before in
+      let start = turn .before .before .before .before .before .before .before .before .before in
+      omega (arith, sibling-room (turn .before .before .loop .inv) (turn .if1 .taken), start .good .1 .0)
 
-visit-put-requires-2 : (t : ℕ) → visit-lts.Need-put-requires-2 (
-  widen-reads.Asked,
-  widen-reads.Learnt,
-  put-reads.Asked,
-  put-reads.Learnt,
-  visit-below t,
-  visit.Post,
-) (visit-at t) visit.Post visit-Inv-loop visit-μ-loop
-visit-put-requires-2 t c κs = omega (arith, leaving _ _ _ (c .before .before .before .before .before .before .before .before .before .before .before .before .before .before .before .before .before .before .pre .1 .0) _ _ _ _ (c .before .before .before .before .before .before .before .before .before .before .before .before .before .before .before .before .before .before .pre .1 .1 .0) _ (c .before .before .before .before .before .before .before .before .before .before .before .before .before .before .before .before .before .before .pre .1 .1 .1 .1) _ _ _ (c .before .before .before .before .before .before .before .before .before .before .before .loop .inv) (c .before .before .before .before .before .before .before .before .before .if1 .taken) _ _ _ (c .before .before .before .before .before .before .before .put .ensures) (c .before .before .before .visit .ensures .0) (c .before .before .before .visit .ensures .1), c .before .before .before .before .before .before .before .before .before .before .struct-known2 .given)
+  add-widen-2 : lts.Need-add-widen-2 (calls n) (pre-at n) visit.Post Inv-loop μ-loop
+  add-widen-2 c =
+      let turn = c .before .before .before .before .before .before .before .before .before in
+      let start = turn .before .before .before .before .before .before .before .before .before in
+      omega (arith, sibling-room (turn .before .before .loop .inv) (turn .if1 .taken), start .good .1 .0)
 
-visit-mul-widen-3 : (t : ℕ) → visit-lts.Need-mul-widen-3 (
-  widen-reads.Asked,
-  widen-reads.Learnt,
-  put-reads.Asked,
-  put-reads.Learnt,
-  visit-below t,
-  visit.Post,
-) (visit-at t) visit.Post visit-Inv-loop visit-μ-loop
-visit-mul-widen-3 t c = omega (arith, sibling-room _ _ _ (c .before .before .before .before .before .before .before .before .before .before .before .before .before .before .before .before .before .before .before .before .before .before .pre .1 .0) _ _ _ _ (c .before .before .before .before .before .before .before .before .before .before .before .before .before .before .before .before .before .before .before .before .before .before .pre .1 .1 .0) _ (c .before .before .before .before .before .before .before .before .before .before .before .before .before .before .before .before .before .before .before .before .before .before .pre .1 .1 .1 .1) _ _ _ (c .before .before .before .before .before .before .before .before .before .before .before .before .before .before .before .loop .inv) (c .before .before .before .before .before .before .before .before .before .before .before .before .before .if1 .taken), c .before .before .before .before .before .before .before .before .before .before .before .before .before .before .before .before .before .before .before .before .before .before .good .1 .0)
+  mul-widen-4 : lts.Need-mul-widen-4 (calls n) (pre-at n) visit.Post Inv-loop μ-loop
+  mul-widen-4 c =
+      let turn = c .before .before .before .before .before .before .before .before .before in
+      let start = turn .before .before .before .before .before .before .before .before .before in
+      omega (arith, sibling-room (turn .before .before .loop .inv) (turn .if1 .taken), start .good .1 .0)
 
-visit-add-widen-2 : (t : ℕ) → visit-lts.Need-add-widen-2 (
-  widen-reads.Asked,
-  widen-reads.Learnt,
-  put-reads.Asked,
-  put-reads.Learnt,
-  visit-below t,
-  visit.Post,
-) (visit-at t) visit.Post visit-Inv-loop visit-μ-loop
-visit-add-widen-2 t c = omega (arith, sibling-room _ _ _ (c .before .before .before .before .before .before .before .before .before .before .before .before .before .before .before .before .before .before .before .before .before .before .pre .1 .0) _ _ _ _ (c .before .before .before .before .before .before .before .before .before .before .before .before .before .before .before .before .before .before .before .before .before .before .pre .1 .1 .0) _ (c .before .before .before .before .before .before .before .before .before .before .before .before .before .before .before .before .before .before .before .before .before .before .pre .1 .1 .1 .1) _ _ _ (c .before .before .before .before .before .before .before .before .before .before .before .before .before .before .before .loop .inv) (c .before .before .before .before .before .before .before .before .before .before .before .before .before .if1 .taken), c .before .before .before .before .before .before .before .before .before .before .before .before .before .before .before .before .before .before .before .before .before .before .good .1 .0)
+  shared-slice-read-widen-2 : lts.Need-shared-slice-read-widen-2 (calls n) (pre-at n) visit.Post Inv-loop μ-loop
+  shared-slice-read-widen-2 c = search (needs, sibling-room)
 
-visit-mul-widen-4 : (t : ℕ) → visit-lts.Need-mul-widen-4 (
-  widen-reads.Asked,
-  widen-reads.Learnt,
-  put-reads.Asked,
-  put-reads.Learnt,
-  visit-below t,
-  visit.Post,
-) (visit-at t) visit.Post visit-Inv-loop visit-μ-loop
-visit-mul-widen-4 t c = omega (arith, sibling-room _ _ _ (c .before .before .before .before .before .before .before .before .before .before .before .before .before .before .before .before .before .before .before .before .before .before .pre .1 .0) _ _ _ _ (c .before .before .before .before .before .before .before .before .before .before .before .before .before .before .before .before .before .before .before .before .before .before .pre .1 .1 .0) _ (c .before .before .before .before .before .before .before .before .before .before .before .before .before .before .before .before .before .before .before .before .before .before .pre .1 .1 .1 .1) _ _ _ (c .before .before .before .before .before .before .before .before .before .before .before .before .before .before .before .loop .inv) (c .before .before .before .before .before .before .before .before .before .before .before .before .before .if1 .taken), c .before .before .before .before .before .before .before .before .before .before .before .before .before .before .before .before .before .before .before .before .before .before .good .1 .0)
+  widen-requires-2 : lts.Need-widen-requires-2 (calls n) (pre-at n) visit.Post Inv-loop μ-loop
+  widen-requires-2 c κs = search needs
 
-visit-shared-slice-read-widen-2 : (t : ℕ) → visit-lts.Need-shared-slice-read-widen-2 (
-  widen-reads.Asked,
-  widen-reads.Learnt,
-  put-reads.Asked,
-  put-reads.Learnt,
-  visit-below t,
-  visit.Post,
-) (visit-at t) visit.Post visit-Inv-loop visit-μ-loop
-visit-shared-slice-read-widen-2 t c = sibling-room _ _ _ (c .before .before .before .before .before .before .before .before .before .before .before .before .before .before .before .before .before .before .before .before .before .before .before .pre .1 .0) _ _ _ _ (c .before .before .before .before .before .before .before .before .before .before .before .before .before .before .before .before .before .before .before .before .before .before .before .pre .1 .1 .0) _ (c .before .before .before .before .before .before .before .before .before .before .before .before .before .before .before .before .before .before .before .before .before .before .before .pre .1 .1 .1 .1) _ _ _ (c .before .before .before .before .before .before .before .before .before .before .before .before .before .before .before .before .loop .inv) (c .before .before .before .before .before .before .before .before .before .before .before .before .before .before .if1 .taken)
+  loop-less : lts.Need-loop-less (calls n) (pre-at n) visit.Post Inv-loop μ-loop
+  loop-less c = search (needs, rising)
 
-visit-widen-requires-2 : (t : ℕ) → visit-lts.Need-widen-requires-2 (
-  widen-reads.Asked,
-  widen-reads.Learnt,
-  put-reads.Asked,
-  put-reads.Learnt,
-  visit-below t,
-  visit.Post,
-) (visit-at t) visit.Post visit-Inv-loop visit-μ-loop
-visit-widen-requires-2 t c κs = search needs
+  loop-again : lts.Need-loop-again (calls n) (pre-at n) visit.Post Inv-loop μ-loop
+  loop-again c =
+      let stored = c .before .before .before .before .before in
+      let below = stored .before .before .before .before .visit .ensures in
+      let turn = c .before .before .before .before .before .before .before .before .before .before .before in
+      let y = turn .before .before .loop .inv in
+      let h = turn .if1 .taken in
+      walk-next y h _ _ (below .0) (below .1) _ _ (omega (arith, left-few y h)) (stored .store-span .ensures) _ (c .widen2 .ensures)
 
-visit-loop-less : (t : ℕ) → visit-lts.Need-loop-less (
-  widen-reads.Asked,
-  widen-reads.Learnt,
-  put-reads.Asked,
-  put-reads.Learnt,
-  visit-below t,
-  visit.Post,
-) (visit-at t) visit.Post visit-Inv-loop visit-μ-loop
-visit-loop-less t c = rising _ _ _ (c .before .before .before .before .before .before .before .before .before .before .before .before .before .before .before .before .before .before .before .before .before .before .before .before .pre .1 .0) _ _ _ _ (c .before .before .before .before .before .before .before .before .before .before .before .before .before .before .before .before .before .before .before .before .before .before .before .before .pre .1 .1 .0) _ (c .before .before .before .before .before .before .before .before .before .before .before .before .before .before .before .before .before .before .before .before .before .before .before .before .pre .1 .1 .1 .1) _ _ _ (c .before .before .before .before .before .before .before .before .before .before .before .before .before .before .before .before .before .loop .inv) (c .before .before .before .before .before .before .before .before .before .before .before .before .before .before .before .if1 .taken) _ (c .widen2 .ensures)
+  same-length : lts.Need-same-length (calls n) (pre-at n) visit.Post Inv-loop μ-loop
+  same-length c = search needs
 
-visit-loop-again : (t : ℕ) → visit-lts.Need-loop-again (
-  widen-reads.Asked,
-  widen-reads.Learnt,
-  put-reads.Asked,
-  put-reads.Learnt,
-  visit-below t,
-  visit.Post,
-) (visit-at t) visit.Post visit-Inv-loop visit-μ-loop
-visit-loop-again t c = walk-next _ _ _ (c .before .before .before .before .before .before .before .before .before .before .before .before .before .before .before .before .before .before .before .before .before .before .before .before .pre .1 .0) _ _ _ _ (c .before .before .before .before .before .before .before .before .before .before .before .before .before .before .before .before .before .before .before .before .before .before .before .before .pre .1 .1 .0) _ (c .before .before .before .before .before .before .before .before .before .before .before .before .before .before .before .before .before .before .before .before .before .before .before .before .pre .1 .1 .1 .1) _ _ _ (c .before .before .before .before .before .before .before .before .before .before .before .before .before .before .before .before .before .loop .inv) (c .before .before .before .before .before .before .before .before .before .before .before .before .before .before .before .if1 .taken) _ _ _ _ _ (c .before .before .before .before .before .before .before .before .before .before .before .before .before .put .ensures) (c .before .before .before .before .before .before .before .before .before .visit .ensures .0) (c .before .before .before .before .before .before .before .before .before .visit .ensures .1) (c .before .before .before .before .before .put2 .ensures) (c .widen2 .ensures)
-
-visit-same-length : (t : ℕ) → visit-lts.Need-same-length (
-  widen-reads.Asked,
-  widen-reads.Learnt,
-  put-reads.Asked,
-  put-reads.Learnt,
-  visit-below t,
-  visit.Post,
-) (visit-at t) visit.Post visit-Inv-loop visit-μ-loop
-visit-same-length t c = c .before .before .loop .inv .numbered .len
-
-visit-returns : (t : ℕ) → visit-lts.Need-returns (
-  widen-reads.Asked,
-  widen-reads.Learnt,
-  put-reads.Asked,
-  put-reads.Learnt,
-  visit-below t,
-  visit.Post,
-) (visit-at t) visit.Post visit-Inv-loop visit-μ-loop
-visit-returns t c = walk-end _ _ _ (c .before .before .before .before .before .before .before .before .before .pre .1 .0) _ _ _ _ (c .before .before .before .before .before .before .before .before .before .pre .1 .1 .0) _ (c .before .before .before .before .before .before .before .before .before .pre .1 .1 .1 .1) _ _ _ (c .before .before .loop .inv) (c .if1 .left)
+  returns : lts.Need-returns (calls n) (pre-at n) visit.Post Inv-loop μ-loop
+  returns c = walk-end (c .before .before .loop .inv) (c .if1 .left)
 
 pub +visit-spec : {M : Type 1} → statement M
-+visit-spec = close μ-visit λ t. visit-lts.spec (
-  widen-reads.Asked,
-  widen-reads.Learnt,
-  put-reads.Asked,
-  put-reads.Learnt,
-  visit-below t,
-  visit.Post,
-)
-    (visit-at t)
-    visit.Post
-    visit-Inv-loop
-    visit-μ-loop
-    (visit-mul-widen t)
-    (visit-add-widen t)
-    (visit-mul-widen-2 t)
-    (visit-shared-slice-read-widen t)
-    (visit-widen-requires t)
-    (visit-loop-holds t)
-    (visit-cast-if1 t)
-    (visit-add-put t)
-    (visit-mul-put t)
-    (visit-add-put-2 t)
-    (visit-put-requires t)
-    (visit-add-visit t)
-    (visit-add-visit-2 t)
-    (visit-sub-visit t)
-    (visit-visit-requires t)
-    (visit-add-put-3 t)
-    (visit-mul-put-2 t)
-    (visit-add-put-4 t)
-    (visit-put-requires-2 t)
-    (visit-mul-widen-3 t)
-    (visit-add-widen-2 t)
-    (visit-mul-widen-4 t)
-    (visit-shared-slice-read-widen-2 t)
-    (visit-widen-requires-2 t)
-    (visit-loop-less t)
-    (visit-loop-again t)
-    (visit-same-length t)
-    (visit-returns t)
++visit-spec =
+    close μ-visit λ n.
+    lts.spec (calls n) (pre-at n) visit.Post Inv-loop μ-loop
+    (mul-widen n)
+    (add-widen n)
+    (mul-widen-2 n)
+    (shared-slice-read-widen n)
+    (widen-requires n)
+    (loop-holds n)
+    (cast-if1 n)
+    (add-visit n)
+    (add-visit-2 n)
+    (sub-visit n)
+    (visit-requires n)
+    (add-store-span n)
+    (mul-store-span n)
+    (add-store-span-2 n)
+    (sub-store-span n)
+    (store-span-requires n)
+    (mul-widen-3 n)
+    (add-widen-2 n)
+    (mul-widen-4 n)
+    (shared-slice-read-widen-2 n)
+    (widen-requires-2 n)
+    (loop-less n)
+    (loop-again n)
+    (same-length n)
+    (returns n)

@@ -1,4 +1,5 @@
 -- `table_spans::blank_spans` meets its contract.
+use borrow.Author.Needs.{needs}
 use native.Mathlib.Omega.{arith}
 use Prim.Native.Nat.{_≤_, _-_}
 use Rattle.table_spans.specs.Walked.{Blank}
@@ -15,44 +16,32 @@ abbrev μ-loop : tie.MeasureT-loop
 loop-holds : tie.Need-loop-holds Inv-loop μ-loop
 loop-holds c = (omega arith, blank-start _ _)
 
-add-put : tie.Need-add-put Inv-loop μ-loop
-add-put c = omega (arith, c .before .before .before .before .pre, c .before .before .before .before .good .0)
+add-store-span : tie.Need-add-store-span Inv-loop μ-loop
+add-store-span c = search needs
 
-mul-put : tie.Need-mul-put Inv-loop μ-loop
-mul-put c = omega (arith, c .before .before .before .before .pre, c .before .before .before .before .good .0)
+mul-store-span : tie.Need-mul-store-span Inv-loop μ-loop
+mul-store-span c = search needs
 
-add-put-2 : tie.Need-add-put-2 Inv-loop μ-loop
-add-put-2 c = omega (arith, c .before .before .before .before .pre, c .before .before .before .before .good .0)
+add-store-span-2 : tie.Need-add-store-span-2 Inv-loop μ-loop
+add-store-span-2 c = search needs
 
-put-requires : tie.Need-put-requires Inv-loop μ-loop
-put-requires c κs = omega (arith, c .before .before .before .before .pre, c .before .before .loop .inv .1 .frame .len)
-
-add-put-3 : tie.Need-add-put-3 Inv-loop μ-loop
-add-put-3 c = omega (arith, c .before .before .before .before .before .before .before .before .pre, c .before .before .before .before .before .before .before .before .good .0)
-
-mul-put-2 : tie.Need-mul-put-2 Inv-loop μ-loop
-mul-put-2 c = omega (arith, c .before .before .before .before .before .before .before .before .pre, c .before .before .before .before .before .before .before .before .good .0)
-
-add-put-4 : tie.Need-add-put-4 Inv-loop μ-loop
-add-put-4 c = omega (arith, c .before .before .before .before .before .before .before .before .pre, c .before .before .before .before .before .before .before .before .good .0)
-
-put-requires-2 : tie.Need-put-requires-2 Inv-loop μ-loop
-put-requires-2 c κs = omega (arith, c .before .before .before .before .before .before .before .before .pre, blank-room _ _ _ _ _ _ _ (c .before .before .before .before .before .before .loop .inv .1) (c .before .before .before .put .ensures))
+store-span-requires : tie.Need-store-span-requires Inv-loop μ-loop
+store-span-requires c κs = search (needs, blank-room)
 
 add-t : tie.Need-add-t Inv-loop μ-loop
-add-t c = omega (arith, c .before .before .before .before .before .before .before .before .before .before .before .fits .n, c .before .before .before .before .before .before .before .before .loop-test .taken)
+add-t c = search needs
 
 loop-less : tie.Need-loop-less Inv-loop μ-loop
-loop-less c = omega (arith, c .before .before .before .before .before .before .before .before .loop-test .taken)
+loop-less c = search needs
 
 loop-again : tie.Need-loop-again Inv-loop μ-loop
-loop-again c = (omega (arith, c .before .before .before .before .before .before .before .before .loop-test .taken), blank-next _ _ _ _ _ _ _ (c .before .before .before .before .before .before .before .before .before .before .before .pre) (c .before .before .before .before .before .before .before .before .loop-test .taken) (c .before .before .before .before .before .before .before .before .before .loop .inv .1) (c .before .before .before .before .before .before .put .ensures) (c .before .before .put2 .ensures))
+loop-again c = search (needs, blank-next)
 
 same-length : tie.Need-same-length Inv-loop μ-loop
-same-length c = c .before .loop .inv .1 .frame .len
+same-length c = search needs
 
 returns : tie.Need-returns Inv-loop μ-loop
-returns c = blank-end _ _ _ _ _ (c .before .loop .inv .0) (c .loop-test .left) (c .before .loop .inv .1)
+returns c = search (needs, blank-end)
 
 pub blank-spans-spec : {M : Type 1} → statement M
 blank-spans-spec =
@@ -61,14 +50,10 @@ blank-spans-spec =
     Inv-loop
     μ-loop
     loop-holds
-    add-put
-    mul-put
-    add-put-2
-    put-requires
-    add-put-3
-    mul-put-2
-    add-put-4
-    put-requires-2
+    add-store-span
+    mul-store-span
+    add-store-span-2
+    store-span-requires
     add-t
     loop-less
     loop-again

@@ -15,4 +15,4 @@ mod checksum;
 pub use host::Host;
 pub use numbers::six_numbers;
 pub use program::{LoadError, LoadErrorKind, Program};
-pub use table::{descends, parent, table_words};
+pub use table::{descends, parent, rust_words};

@@ -1,4 +1,4 @@
-//! The linked table's words, read off a loaded program, and its own family test.
+//! The linked table's words as far as the Rust has them, read off a loaded program, and its own family test.
 
 use bytecode_lang::{Callee, ValType};
 
@@ -16,8 +16,9 @@ pub fn parent(program: &Program, t: u32) -> Option<u32> {
     program.struct_info(t)?.parent
 }
 
-/// The words of the linked table.
-pub fn table_words(program: &Program, host: &Host) -> Vec<u32> {
+/// The words of a table whose spans are pre and post alone: the Rust knows no chain length, so its first word and its length
+/// are not those of a linked table.
+pub fn rust_words(program: &Program, host: &Host) -> Vec<u32> {
     let mut sections: [Vec<u32>; 8] = Default::default();
     let [funcs, types, imports, hooks, canon, globals, refs, spans] = &mut sections;
     list(funcs, &program.funcs, function);
@@ -39,7 +40,7 @@ pub fn table_words(program: &Program, host: &Host) -> Vec<u32> {
     assemble(&sections)
 }
 
-/// Edition, length, the eight starts, then the sections.
+/// A first word, the length, the eight starts, then the sections.
 fn assemble(sections: &[Vec<u32>; 8]) -> Vec<u32> {
     let mut words = vec![1, 0];
     let mut start = 10;

@@ -1,10 +1,12 @@
 //! The answer to a sheet: layout (1), host list (23), lengths (24), then `Program::load`.
 
-use bvm_lang::{six_numbers, table_words, Host, Program};
+use bvm_lang::{six_numbers, Program};
 use sheets::{
     decode_hosts, decode_sheet, encode_hosts, encode_sheet, needed, rust_host, rust_module,
     HostEntry, Sheet,
 };
+
+use crate::Accepted;
 
 /// The six numbers, and the table's words when the sheet is accepted.
 #[derive(Clone, Debug, PartialEq, Eq)]
@@ -20,8 +22,8 @@ pub fn answer(sheet: &[u8], hosts: &[u8], table_len: u32, work_len: u32) -> Answ
             numbers,
             table: None,
         },
-        Ok((program, host)) => {
-            let table = table_words(&program, &host);
+        Ok(accepted) => {
+            let table = accepted.table();
             Answer {
                 numbers: [0, 0, table.len() as u32, 0, 0, 0],
                 table: Some(table),
@@ -37,13 +39,13 @@ pub fn answer_plain(sheet: &Sheet, hosts: &[HostEntry]) -> Answer {
     answer(&sheet, &hosts, u32::MAX, u32::MAX)
 }
 
-/// The loaded program and its host, or the six numbers of the refusal.
+/// What the reference makes of the sheet, or the six numbers of the refusal.
 pub fn load(
     sheet: &[u8],
     hosts: &[u8],
     table_len: u32,
     work_len: u32,
-) -> Result<(Program, Host), [u32; 6]> {
+) -> Result<Accepted, [u32; 6]> {
     let only = |kind| [kind, 0, 0, 0, 0, 0];
     let (sheet, n) = decode_sheet(sheet).ok_or(only(1))?;
     let host = decode_hosts(hosts)
@@ -53,7 +55,11 @@ pub fn load(
         return Err(only(24));
     }
     match Program::load(rust_module(&sheet), &host) {
-        Ok(program) => Ok((program, host)),
+        Ok(program) => Ok(Accepted {
+            sheet,
+            program,
+            host,
+        }),
         Err(error) => Err(six_numbers(&error, |module, name| {
             string_numbers(&sheet, module, name)
         })),

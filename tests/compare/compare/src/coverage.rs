@@ -4,7 +4,7 @@ use std::fmt;
 
 use sheets::{decode_sheet, Sheet};
 
-use crate::Answer;
+use crate::{chain_lengths, Answer};
 
 /// Kinds that a sheet, a host list or lengths can meet: 0 to 24 (25 is the query's, 26 cannot occur).
 const KINDS: usize = 25;
@@ -12,13 +12,17 @@ const KINDS: usize = 25;
 /// A run of at least so many cases fails if it misses a kind or a word.
 pub const FULL_RUN: u64 = 5000;
 
-/// Hits by kind, by word of kinds 3 and 11, and by operation code in accepted sheets.
+/// The longest chain of a sheet: it has no struct, roots alone, something between, or is at the limit or just below.
+const CHAINS: [&str; 4] = ["0", "1", "2-253", "254-256"];
+
+/// Hits by kind, by word of kinds 3 and 11, and of accepted sheets by operation code and by the longest chain.
 #[derive(Clone, Debug)]
 pub struct Coverage {
     kinds: [u64; KINDS],
     out_of_range: [u64; 14],
     wrong_type_kind: [u64; 4],
     codes: [u64; 35],
+    chains: [u64; CHAINS.len()],
 }
 
 impl Default for Coverage {
@@ -28,6 +32,7 @@ impl Default for Coverage {
             out_of_range: [0; 14],
             wrong_type_kind: [0; 4],
             codes: [0; 35],
+            chains: [0; CHAINS.len()],
         }
     }
 }
@@ -39,7 +44,7 @@ impl Coverage {
         self.add_numbers(answer.numbers, sheet.as_ref().map(|(sheet, _)| sheet));
     }
 
-    /// Counts the six numbers, and the codes of the sheet if it is an accepted one.
+    /// Counts the six numbers, and the codes and the longest chain of the sheet if it is an accepted one.
     pub fn add_numbers(&mut self, [kind, word, ..]: [u32; 6], accepted: Option<&Sheet>) {
         self.kinds[kind as usize] += 1;
         match kind {
@@ -49,7 +54,18 @@ impl Coverage {
         }
         if let Some(sheet) = accepted {
             self.add_codes(sheet);
+            self.add_chain(sheet);
         }
+    }
+
+    fn add_chain(&mut self, sheet: &Sheet) {
+        let place = match chain_lengths(sheet).into_iter().max() {
+            None | Some(0) => 0,
+            Some(1) => 1,
+            Some(2..=253) => 2,
+            Some(_) => 3,
+        };
+        self.chains[place] += 1;
     }
 
     fn add_codes(&mut self, sheet: &Sheet) {
@@ -71,6 +87,7 @@ impl Coverage {
         both(&mut self.out_of_range, &other.out_of_range);
         both(&mut self.wrong_type_kind, &other.wrong_type_kind);
         both(&mut self.codes, &other.codes);
+        both(&mut self.chains, &other.chains);
     }
 
     /// What no case has hit, in words.
@@ -85,6 +102,9 @@ impl Coverage {
         look("kind 3 word", 1, &self.out_of_range);
         look("kind 11 word", 1, &self.wrong_type_kind);
         look("accepted code", 0, &self.codes);
+        let chains = CHAINS.iter().zip(self.chains);
+        let unmet = chains.filter(|&(_, hits)| hits == 0);
+        missed.extend(unmet.map(|(length, _)| format!("accepted longest chain {length}")));
         missed
     }
 }
@@ -102,6 +122,9 @@ impl fmt::Display for Coverage {
         row("kind", 0, &self.kinds)?;
         row("kind 3 word", 1, &self.out_of_range)?;
         row("kind 11 word", 1, &self.wrong_type_kind)?;
-        row("accepted sheets with code", 0, &self.codes)
+        row("accepted sheets with code", 0, &self.codes)?;
+        let chains = CHAINS.iter().zip(self.chains);
+        let cells: Vec<_> = chains.map(|(length, h)| format!("{length}:{h}")).collect();
+        writeln!(f, "accepted sheets by longest chain {}", cells.join(" "))
     }
 }

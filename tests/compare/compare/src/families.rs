@@ -141,7 +141,7 @@ mod tests {
     fn lines_of_the_report() {
         assert_eq!(reported(&[]), ["0 0"]);
         let three = bytes(&forest([Some(2), Some(2), None]));
-        let accepted = ["0 0 76 0 0 0", "0 1", "1 1", "2 3"];
+        let accepted = ["0 0 79 0 0 0", "0 1", "1 1", "2 3"];
         let refused = "1 0 0 0 0 0";
         let lines = reported(&[three.clone(), Vec::new()]);
         assert_eq!(lines, [&accepted[..], &[refused, "3 5"]].concat());

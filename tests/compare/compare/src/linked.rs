@@ -1,5 +1,7 @@
 //! A linked table read back from its words, section by section.
 
+use crate::table::FIRST_WORD;
+
 /// What a table holds, as far as the comparisons need it.
 #[derive(Clone, Debug, PartialEq, Eq)]
 pub struct Linked {
@@ -12,7 +14,8 @@ pub struct Linked {
     pub canonical: Vec<u32>,
     pub global_types: Vec<u32>,
     pub reference_globals: Vec<u32>,
-    pub spans: Vec<(u32, u32)>,
+    /// Of each type pre, post and the chain length.
+    pub spans: Vec<[u32; 3]>,
 }
 
 struct Section<'t> {
@@ -42,6 +45,10 @@ impl<'t> Section<'t> {
     fn pairs(&mut self) -> Option<Vec<(u32, u32)>> {
         let words = self.list(2)?;
         Some(words.chunks(2).map(|pair| (pair[0], pair[1])).collect())
+    }
+
+    fn spans(&mut self) -> Option<Vec<[u32; 3]>> {
+        Some(self.list(3)?.as_chunks().0.to_vec())
     }
 
     /// A function's record and its catch table.
@@ -81,7 +88,7 @@ impl<'t> Section<'t> {
 impl Linked {
     /// Reads a table that fills its words exactly, each section starting where the last one ended.
     pub fn read(table: &[u32]) -> Option<Linked> {
-        if *table.first()? != 1 || *table.get(1)? as usize != table.len() {
+        if *table.first()? != FIRST_WORD || *table.get(1)? as usize != table.len() {
             return None;
         }
         let mut s = Section { table, next: 10 };
@@ -112,7 +119,7 @@ impl Linked {
         begin(&s, 6)?;
         let reference_globals = s.list(1)?;
         begin(&s, 7)?;
-        let spans = s.pairs()?;
+        let spans = s.spans()?;
         (s.next == table.len()).then_some(Linked {
             catch_tables,
             functions,

@@ -1,5 +1,10 @@
-//! The family queries over any words: who descends from whom, how many do, and which family of two is the nearest; 25 where
-//! they are no linked table.
+//! The family queries over any words: who descends from whom, how many do, how long a chain is, and which family of two is the
+//! nearest; 25 where they are no linked table.
+
+use crate::table::FIRST_WORD;
+
+/// Pre, post and the chain length of a type.
+type Span = [u32; 3];
 
 /// Whether `t` descends from `a` by the spans of this table.
 pub fn query(table: &[u32], t: u32, a: u32) -> u32 {
@@ -15,9 +20,17 @@ pub fn size_in(table: &[u32], a: u32) -> [u32; 2] {
         None => [25, 0],
         // No span is narrower than empty, whatever stands there.
         Some(spans) => match span(spans, a) {
-            Some((pre, post)) if pre < post => [0, post - pre],
+            Some([pre, post, _]) if pre < post => [0, post - pre],
             _ => [0, 0],
         },
+    }
+}
+
+/// The chain length that stands in the span of `t`: 0 and that word, 0 and 0 where `t` is no type, or 25 and 0.
+pub fn length_in(table: &[u32], t: u32) -> [u32; 2] {
+    match spans(table) {
+        None => [25, 0],
+        Some(spans) => [0, span(spans, t).map_or(0, |[_, _, length]| length)],
     }
 }
 
@@ -27,10 +40,11 @@ pub fn nearest_in(table: &[u32], t: u32, u: u32) -> [u32; 2] {
     let Some(spans) = spans(table) else {
         return [25, 0];
     };
-    let types = (0..).zip(spans.chunks(2));
-    let holding = types.filter(|&(f, _)| within(spans, t, f) && within(spans, u, f));
-    let width = |span: &[u32]| i64::from(span[1]) - i64::from(span[0]);
-    let widths: Vec<(u32, i64)> = holding.map(|(f, span)| (f, width(span))).collect();
+    let holding = (0..)
+        .zip(spans)
+        .filter(|&(f, _)| within(spans, t, f) && within(spans, u, f));
+    let width = |[pre, post, _]: Span| i64::from(post) - i64::from(pre);
+    let widths: Vec<(u32, i64)> = holding.map(|(f, &span)| (f, width(span))).collect();
     let least = widths.iter().map(|&(_, width)| width).min();
     let narrowest = widths.iter().filter(|&&(_, width)| Some(width) == least);
     nearest_numbers(narrowest.map(|&(f, _)| f).min())
@@ -41,9 +55,9 @@ pub fn nearest_numbers(family: Option<u32>) -> [u32; 2] {
     family.map_or([1, 0], |family| [0, family])
 }
 
-/// The words of all spans; sums are in 64 bits, so that no count wraps.
-fn spans(table: &[u32]) -> Option<&[u32]> {
-    if table.len() < 10 || table[0] != 1 {
+/// All spans; sums are in 64 bits, so that no count wraps.
+fn spans(table: &[u32]) -> Option<&[Span]> {
+    if table.len() < 10 || table[0] != FIRST_WORD {
         return None;
     }
     let (length, start) = (u64::from(table[1]), u64::from(table[9]));
@@ -52,19 +66,18 @@ fn spans(table: &[u32]) -> Option<&[u32]> {
         return None;
     }
     let count = u64::from(table[start as usize]);
-    let end = start + 1 + 2 * count;
-    (end <= length).then(|| &table[start as usize + 1..end as usize])
+    let end = start + 1 + 3 * count;
+    (end <= length).then(|| table[start as usize + 1..end as usize].as_chunks().0)
 }
 
-/// Pre and post of a number, if there is a span for it.
-fn span(spans: &[u32], n: u32) -> Option<(u32, u32)> {
-    let at = usize::try_from(n).ok()?.checked_mul(2)?;
-    Some((*spans.get(at)?, *spans.get(at + 1)?))
+/// The span of a number, if there is one for it.
+fn span(spans: &[Span], n: u32) -> Option<Span> {
+    spans.get(usize::try_from(n).ok()?).copied()
 }
 
-fn within(spans: &[u32], t: u32, a: u32) -> bool {
+fn within(spans: &[Span], t: u32, a: u32) -> bool {
     match (span(spans, t), span(spans, a)) {
-        (Some((pre_t, _)), Some((pre_a, post_a))) => pre_a <= pre_t && pre_t < post_a,
+        (Some([pre_t, ..]), Some([pre_a, post_a, _])) => pre_a <= pre_t && pre_t < post_a,
         _ => false,
     }
 }
@@ -73,11 +86,11 @@ fn within(spans: &[u32], t: u32, a: u32) -> bool {
 mod tests {
     use super::*;
 
-    /// A header of ten words and four spans; the third is turned round, the fourth is that of no struct.
+    /// A header of ten words and four spans; the third is turned round, the fourth has pre and post of no struct.
     #[rustfmt::skip]
-    const TABLE: [u32; 20] = [
-        1, 19, 0, 0, 0, 0, 0, 0, 0, 10,
-        4, 0, 3, 1, 2, 5, 2, u32::MAX, 0, 7,
+    const TABLE: [u32; 24] = [
+        2, 23, 0, 0, 0, 0, 0, 0, 0, 10,
+        4, 0, 3, 1, 1, 2, 9, 5, 2, 0, u32::MAX, 0, u32::MAX, 7,
     ];
 
     #[test]
@@ -87,32 +100,77 @@ mod tests {
         }
     }
 
+    #[test]
+    fn lengths_are_whatever_stands_there() {
+        let lengths = [(0, 1), (1, 9), (2, 0), (3, u32::MAX)];
+        for (t, length) in lengths
+            .into_iter()
+            .chain([(4, 0), (1 << 31, 0), (u32::MAX, 0)])
+        {
+            assert_eq!(length_in(&TABLE, t), [0, length], "{t}");
+        }
+    }
+
     /// The sample with one word altered.
-    fn altered(place: usize, word: u32) -> [u32; 20] {
+    fn altered(place: usize, word: u32) -> [u32; 24] {
         let mut table = TABLE;
         table[place] = word;
         table
     }
 
     #[test]
-    fn words_that_are_no_table_have_neither_sizes_nor_nearest_families() {
-        let assert_no_table = |table: &[u32], what: &str| {
-            // Also of numbers that are no types.
-            for (t, u) in [(0, 0), (0, 4), (1 << 31, 0), (u32::MAX, u32::MAX)] {
-                assert_eq!(size_in(table, t), [25, 0], "{what}: {t}");
-                assert_eq!(nearest_in(table, t, u), [25, 0], "{what}: {t} and {u}");
-            }
-        };
-        for (place, word) in [(0, 2), (1, 18), (1, 21), (9, 9), (9, 19), (9, u32::MAX)] {
+    fn words_that_are_no_table_have_no_families() {
+        for (place, word) in [
+            (0, 1),
+            (0, 3),
+            (1, 22),
+            (1, 25),
+            (9, 9),
+            (9, 23),
+            (9, u32::MAX),
+        ] {
             assert_no_table(&altered(place, word), &format!("word {place}: {word}"));
         }
-        // Twice the middle ones is 0, 2 or 8 in 32 bits.
-        let half = 1 << 31;
-        for count in [5, half, half + 1, half + 4, u32::MAX - 1, u32::MAX] {
+        // Three times one of the middle six is 4294967295, 2, 5, 11, 1 or 4 in 32 bits.
+        let (third, two_thirds) = (0x5555_5555, 0xaaaa_aaab);
+        let counts = [
+            third,
+            third + 1,
+            third + 2,
+            third + 4,
+            two_thirds,
+            two_thirds + 1,
+        ];
+        for count in counts
+            .into_iter()
+            .chain([5, 1 << 31, u32::MAX - 1, u32::MAX])
+        {
             assert_no_table(&altered(10, count), &format!("count {count}"));
         }
-        for end in 0..19 {
+        for end in 0..23 {
             assert_no_table(&TABLE[..end], &format!("{end} words"));
+        }
+    }
+
+    /// 25 by every query, also of numbers that are no types.
+    fn assert_no_table(table: &[u32], what: &str) {
+        for (t, u) in [(0, 0), (0, 4), (1 << 31, 0), (u32::MAX, u32::MAX)] {
+            assert_eq!(query(table, t, u), 25, "{what}: {t} from {u}");
+            assert_eq!(size_in(table, t), [25, 0], "{what}: {t}");
+            assert_eq!(length_in(table, t), [25, 0], "{what}: {t}");
+            assert_eq!(nearest_in(table, t, u), [25, 0], "{what}: {t} and {u}");
+        }
+    }
+
+    #[test]
+    fn two_words_a_span_are_no_table() {
+        let pairs = [4, 0, 3, 1, 2, 5, 2, u32::MAX, 0];
+        for first in [1, 2] {
+            let header = [first, 19, 0, 0, 0, 0, 0, 0, 0, 10];
+            let words = [&header[..], &pairs].concat();
+            assert_no_table(&words, &format!("first word {first}"));
+            // Words behind it do not make it one.
+            assert_no_table(&[&words[..], &[0; 9]].concat(), "with further words");
         }
     }
 
@@ -120,29 +178,35 @@ mod tests {
     fn words_that_are_just_a_table() {
         let size = |place, word| size_in(&altered(place, word), 0);
         assert_eq!((size(10, 0), size(10, 1)), ([0, 0], [0, 3]));
-        // At 11 the count is 0, at 12 it is 3 and fits.
-        assert_eq!((size(9, 11), size(9, 12)), ([0, 0], [0, 1]));
+        // At 11 the count is 0, at 12 it is 3 and fits: 1 1 2, 9 5 2, 0 4294967295 0.
+        assert_eq!((size(9, 11), size(9, 12)), ([0, 0], [0, 0]));
+        let lengths = [0, 1, 2, 3].map(|t| length_in(&altered(9, 12), t));
+        assert_eq!(lengths, [[0, 2], [0, 2], [0, 0], [0, 0]]);
+        assert_eq!(length_in(&altered(9, 11), 0), [0, 0]);
         let nearest = |place, word| nearest_in(&altered(place, word), 0, 0);
         assert_eq!((nearest(10, 0), nearest(10, 1)), ([1, 0], [0, 0]));
-        assert_eq!((nearest(9, 11), nearest(9, 12)), ([1, 0], [0, 0]));
-        assert_eq!(nearest_in(&TABLE[..19], 0, 0), [0, 0]);
+        assert_eq!((nearest(9, 11), nearest(9, 12)), ([1, 0], [0, 2]));
+        assert_eq!(nearest_in(&TABLE[..23], 0, 0), [0, 0]);
         // Further words after the table, and none.
-        assert_eq!((nearest(1, 20), nearest(1, 19)), ([0, 0], [0, 0]));
+        assert_eq!((nearest(1, 24), nearest(1, 23)), ([0, 0], [0, 0]));
     }
 
-    /// A table of these spans.
-    fn table_of(spans: &[[u32; 2]]) -> Vec<u32> {
+    /// A table of these spans, each with this third word.
+    fn table_of(spans: &[[u32; 2]], third: u32) -> Vec<u32> {
         let count = spans.len() as u32;
-        let header = [1, 11 + 2 * count, 0, 0, 0, 0, 0, 0, 0, 10, count];
-        [&header, spans.as_flattened()].concat()
+        let header = vec![2, 11 + 3 * count, 0, 0, 0, 0, 0, 0, 0, 10, count];
+        let spans = spans.iter().flat_map(|&[pre, post]| [pre, post, third]);
+        header.into_iter().chain(spans).collect()
     }
 
-    /// A pair in both orders: the family, if there is one.
+    /// A pair in both orders, whatever the third words are: the family, if there is one.
     fn assert_nearest(spans: &[[u32; 2]], t: u32, u: u32, family: Option<u32>) {
         let expected = nearest_numbers(family);
-        let table = table_of(spans);
-        assert_eq!(nearest_in(&table, t, u), expected, "{t} and {u}: {spans:?}");
-        assert_eq!(nearest_in(&table, u, t), expected, "{u} and {t}: {spans:?}");
+        for third in [0, 1, u32::MAX] {
+            let table = table_of(spans, third);
+            assert_eq!(nearest_in(&table, t, u), expected, "{t} and {u}: {spans:?}");
+            assert_eq!(nearest_in(&table, u, t), expected, "{u} and {t}: {spans:?}");
+        }
     }
 
     #[test]

@@ -72,6 +72,21 @@ pub fn nearest_difference(
     None
 }
 
+/// Where the chain length of an image is not that of the type, in words; kinds are to be the same.
+pub fn length_difference(
+    images: &[u32],
+    asked: &[u32],
+    [first, second]: [&[u32]; 2],
+    length: impl Fn(&[u32], u32) -> [u32; 2],
+) -> Option<String> {
+    let both = |t: u32| [length(first, t), length(second, image(images, t))];
+    let mut differing = asked.iter().map(|&t| (t, both(t)));
+    let (t, [of_type, of_image]) = differing.find(|(_, [a, b])| a != b)?;
+    Some(format!(
+        "the chain length of {t}: {of_image:?} and not {of_type:?}"
+    ))
+}
+
 /// Types share a number exactly when their images do: each number goes with one number, both ways.
 fn same_partition(images: &[u32], first: &[u32], second: &[u32]) -> bool {
     let n = images.len();
@@ -92,7 +107,7 @@ fn same_partition(images: &[u32], first: &[u32], second: &[u32]) -> bool {
 #[cfg(test)]
 mod tests {
     use super::*;
-    use crate::{answer_plain, nearest_in, query};
+    use crate::{answer_plain, length_in, nearest_in, query};
     use generator::pair;
 
     /// Finds a renumbered pair that is accepted and has catch tables, types and two canonical numbers that differ.
@@ -172,6 +187,34 @@ mod tests {
         }
         // The same number in both tables is no answer where they are renumbered.
         let unmoved = |_: &[u32], t, u| nearest_in(&first, t, u);
+        assert!(differ(&unmoved).is_some());
+    }
+
+    #[test]
+    fn chain_lengths_of_a_pair_are_compared() {
+        let (images, first, second) = tables();
+        let asked = asked_numbers(&mut Rng::new(1, 1), images.len(), usize::MAX);
+        let differ = |length: &dyn Fn(&[u32], u32) -> [u32; 2]| {
+            length_difference(&images, &asked, [&first, &second], length)
+        };
+        assert_eq!(differ(&length_in), None);
+        // A lie about any one number is told, of the kind and of the length.
+        for &liar in &asked {
+            for place in [0, 1] {
+                let lies = |table: &[u32], t| {
+                    let mut answer = length_in(table, t);
+                    answer[place] += u32::from(table == second && t == image(&images, liar));
+                    answer
+                };
+                let told = differ(&lies).expect("a difference");
+                assert!(
+                    told.contains(&format!("the chain length of {liar}: ")),
+                    "{told}"
+                );
+            }
+        }
+        // The same number in both tables is no answer where they are renumbered.
+        let unmoved = |_: &[u32], t| length_in(&first, t);
         assert!(differ(&unmoved).is_some());
     }
 

@@ -168,18 +168,18 @@ fn rows_of_tried_by_hand() {
         ),
         (
             "family: span of struct 0",
-            pair(family.spans[0]),
-            vec![1, 2],
+            family.spans[0].to_vec(),
+            vec![1, 2, 2],
         ),
         (
             "family: span of struct 1",
-            pair(family.spans[1]),
-            vec![2, 3],
+            family.spans[1].to_vec(),
+            vec![2, 3, 2],
         ),
         (
             "family: span of struct 2, the root",
-            pair(family.spans[2]),
-            vec![0, 3],
+            family.spans[2].to_vec(),
+            vec![0, 3, 1],
         ),
         ("self-parent", vec![kind(&structs(&[Some(0)]))], vec![17]),
         ("256 on a chain", vec![kind(&chain(256))], vec![0]),
@@ -238,13 +238,13 @@ fn rows_of_tried_by_hand() {
         ),
         (
             "no struct: span under nothing",
-            pair(linked(&coroutine_first).spans[0]),
-            vec![NONE, 0],
+            linked(&coroutine_first).spans[0].to_vec(),
+            vec![NONE, 0, 0],
         ),
         (
             "no struct: the first root keeps 0-1",
-            pair(linked(&coroutine_first).spans[1]),
-            vec![0, 1],
+            linked(&coroutine_first).spans[1].to_vec(),
+            vec![0, 1, 1],
         ),
         (
             "function 1's signature before function 0's code",
@@ -256,8 +256,4 @@ fn rows_of_tried_by_hand() {
     for (name, found, expected) in rows {
         assert_eq!(found, expected, "{name}");
     }
-}
-
-fn pair((a, b): (u32, u32)) -> Vec<u32> {
-    vec![a, b]
 }

@@ -29,7 +29,7 @@ fn five_thousand_cases_hit_every_kind_and_word() {
         coverage.add(&case.sheet, &case.answer);
         if let Some(table) = &case.answer.table {
             let (_, n) = decode_sheet(&case.sheet).expect("accepted");
-            assert!(table.len() as u64 <= 4 * u64::from(n) + 5, "{label}");
+            assert!(table.len() as u64 + 6 <= 5 * u64::from(n), "{label}");
             assert_eq!(case.answer.numbers[2] as usize, table.len(), "{label}");
             assert!(Linked::read(table).is_some(), "{label}");
             most_blocks = most_blocks.max(case.sheet.len() / BLOCK);

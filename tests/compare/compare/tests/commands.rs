@@ -48,9 +48,13 @@ fn wrong_arguments_end_with_2() {
 fn coverage_prints_every_kind() {
     let text = stdout(&["coverage", "--seed", "1", "--cases", "50"]);
     let lines: Vec<_> = text.lines().collect();
-    assert_eq!(lines.len(), 4);
+    assert_eq!(lines.len(), 5);
     assert!(lines[0].starts_with("kind 0:") && lines[0].contains(" 24:"));
     assert!(lines[1].contains(" 14:"));
+    assert!(
+        lines[4].starts_with("accepted sheets by longest chain 0:")
+            && lines[4].contains(" 254-256:")
+    );
 }
 
 #[test]
@@ -112,7 +116,7 @@ fn the_report_on_files() {
         sample("lifts.sheet"),
         sample("self-parent.sheet"),
     );
-    let families = "0 0 167 0 0 0\n0 4\n1 1\n2 2\n3 1\n";
+    let families = "0 0 174 0 0 0\n0 4\n1 1\n2 2\n3 1\n";
     let printed = stdout(&["report", &hosts, &lifts, "/nowhere/at/all", &ring, &lifts]);
     let refused = "1 0 0 0 0 0\n17 0 0 0 0 0\n";
     assert_eq!(printed, [families, refused, families, "8 16\n"].concat());

@@ -1,23 +1,26 @@
-//! Descent, the sizes of families and the nearest ones by spans, by the Rust's own test and by declared parents, on generated
-//! sheets.
+//! Descent, the sizes of families, chain lengths and the nearest families by spans, by the Rust's own test and by declared
+//! parents, on generated sheets.
 
-use bvm_lang::{descends, table_words};
+use bvm_lang::descends;
 use compare::{
-    asked_numbers, chain, descends_by_parents, family_sizes, load, nearest_in, nearest_numbers,
-    query, size_in, Ancestors,
+    asked_numbers, chain, chain_lengths, descends_by_parents, family_sizes, length_in, load,
+    nearest_in, nearest_numbers, query, size_in, Ancestors,
 };
 use generator::{case, valid, Draft, Rng, Scale};
 use sheets::{decode_sheet, encode_hosts, encode_sheet, Sheet};
 
-/// Compares the sizes of all families, and for all pairs of numbers the three tests and the nearest family; false when the
-/// sheet is refused.
+/// Compares the sizes of all families and the lengths of all chains, and for all pairs of numbers the three tests and the
+/// nearest family; false when the sheet is refused.
 fn agree(rng: &mut Rng, sheet: &Sheet, bytes: &[u8], hosts: &[u8]) -> bool {
-    let Ok((program, host)) = load(bytes, hosts, u32::MAX, u32::MAX) else {
+    let Ok(accepted) = load(bytes, hosts, u32::MAX, u32::MAX) else {
         return false;
     };
-    let table = table_words(&program, &host);
+    let table = accepted.table();
     for (a, size) in (0..).zip(family_sizes(sheet)) {
         assert_eq!(size_in(&table, a), [0, size], "{a}: {sheet:?}");
+    }
+    for (t, length) in (0..).zip(chain_lengths(sheet)) {
+        assert_eq!(length_in(&table, t), [0, length], "{t}: {sheet:?}");
     }
     let numbers = asked_numbers(rng, sheet.types.len(), 24);
     for &t in &numbers {
@@ -32,7 +35,7 @@ fn agree(rng: &mut Rng, sheet: &Sheet, bytes: &[u8], hosts: &[u8]) -> bool {
                 "{t} from {a}: {sheet:?}"
             );
             assert_eq!(
-                descends(&program, t, a),
+                descends(&accepted.program, t, a),
                 declared,
                 "{t} from {a}: {sheet:?}"
             );

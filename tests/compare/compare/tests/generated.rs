@@ -15,7 +15,7 @@ fn valid_modules_are_accepted_and_read_back() {
         let table = answer.table.expect("accepted");
         assert!(Linked::read(&table).is_some(), "case {index}");
         let words = encode_sheet(&draft.sheet);
-        assert!(table.len() <= 4 * words.words.len() + 5, "case {index}");
+        assert!(table.len() + 6 <= 5 * words.words.len(), "case {index}");
         let (sheet, n) = decode_sheet(&words.to_bytes()).expect("whole");
         assert_eq!((sheet, n as usize), (draft.sheet, words.words.len()));
         let hosts = encode_hosts(&draft.hosts).to_bytes();

@@ -1,6 +1,6 @@
 //! Worked examples on the linked table and the family query, numbered as in docs/DECISIONS.md.
 
-use compare::{answer_plain, query, Linked};
+use compare::{answer_plain, length_in, query, Linked};
 use sheets::build::{
     func, function, hook_function, hook_import, import, ret_void, strings, structure, user,
 };
@@ -103,8 +103,8 @@ fn whole_table() {
     assert_eq!(l.canonical, [0, 1, 2, 2, 4]);
     assert_eq!(l.global_types, [4, 18]);
     assert_eq!(l.reference_globals, [1]);
-    let none = (u32::MAX, 0);
-    assert_eq!(l.spans, [(1, 2), (0, 2), none, none, none]);
+    let none = [u32::MAX, 0, 0];
+    assert_eq!(l.spans, [[1, 2, 2], [0, 2, 1], none, none, none]);
 }
 
 #[test]
@@ -141,15 +141,15 @@ fn references_past_slot_65535() {
 
 #[test]
 fn length_of_a_full_sheet() {
-    // 4.6: coroutines alone reach L = 4N + 5.
+    // 4.6: coroutines alone reach L = 5N - 6.
     let sheet = Sheet {
         types: vec![TypeEntry::Coroutine; 520_181],
         ..Sheet::default()
     };
     let n = encode_sheet(&sheet).words.len();
     assert_eq!(n, 520_192);
-    assert_eq!(table(&sheet).len(), 2_080_773);
-    assert_eq!(4 * n + 5, 2_080_773);
+    assert_eq!(table(&sheet).len(), 2_600_954);
+    assert_eq!(5 * n - 6, 2_600_954);
 }
 
 #[test]
@@ -185,7 +185,8 @@ fn queries() {
         [query(&bad, 0, 1), query(&bad, 99, 99)]
     };
     let length = good[1];
-    assert_eq!(change(0, 2), [25, 25]);
+    assert_eq!(change(0, 1), [25, 25]);
+    assert_eq!(change(0, 3), [25, 25]);
     assert_eq!(change(1, length + 1), [25, 25]);
     assert_eq!(change(1, length - 1), [25, 25]);
     assert_eq!(change(1, 9), [25, 25]);
@@ -193,9 +194,39 @@ fn queries() {
     assert_eq!(change(9, length), [25, 25]);
     assert_eq!(change(9, u32::MAX), [25, 25]);
     assert_eq!(change(start as usize, 4), [25, 25]);
+    assert_eq!(change(start as usize, 0x5555_5555), [25, 25]);
+    assert_eq!(change(start as usize, 0x5555_5556), [25, 25]);
     assert_eq!(change(start as usize, 1 << 31), [25, 25]);
     assert_eq!(change(start as usize, u32::MAX), [25, 25]);
     assert_eq!(change(start as usize, 1)[0], 0);
     assert_eq!(query(&good[..9], 0, 1), 25);
     assert_eq!(query(&[], 0, 1), 25);
+}
+
+#[test]
+fn chain_lengths() {
+    let sheet = Sheet {
+        strings: strings(&[""]),
+        types: vec![
+            structure(Some(3), &[]),
+            TypeEntry::Coroutine,
+            structure(None, &[]),
+            structure(Some(2), &[]),
+        ],
+        ..Sheet::default()
+    };
+    let mut table = table(&sheet);
+    for (t, length) in [(0, 3), (1, 0), (2, 1), (3, 2), (4, 0), (u32::MAX, 0)] {
+        assert_eq!(length_in(&table, t), [0, length], "{t}");
+    }
+    // On words that no load wrote it is whatever stands there, and no other query reads it.
+    let (third, families) = (table[9] as usize + 3, query(&table, 0, 2));
+    table[third] = u32::MAX;
+    assert_eq!(
+        (length_in(&table, 0), query(&table, 0, 2)),
+        ([0, u32::MAX], families)
+    );
+    // 25 comes before unknown numbers.
+    table[0] = 1;
+    assert_eq!([length_in(&table, 0), length_in(&table, 99)], [[25, 0]; 2]);
 }

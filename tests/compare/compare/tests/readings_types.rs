@@ -148,7 +148,7 @@ fn types_and_parents() {
             [3, 1, 9],
         ),
         ("6.1 in the other", vec![two_results, array(9)], [4, 0, 0]),
-        ("3.1 reference to itself", vec![array(0)], [0, 0, 54]),
+        ("3.1 reference to itself", vec![array(0)], [0, 0, 55]),
     ];
     for (name, entries, expected) in rows {
         assert_eq!(numbers(&types(entries))[..3], expected, "{name}");

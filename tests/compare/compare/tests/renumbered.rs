@@ -1,7 +1,8 @@
-//! Renumbered pairs as demand 3 says, and their nearest families.
+//! Renumbered pairs as demand 3 says, their nearest families and their chain lengths.
 
 use compare::{
-    answer_plain, asked_numbers, nearest_difference, nearest_in, pair_difference, query,
+    answer_plain, asked_numbers, length_difference, length_in, nearest_difference, nearest_in,
+    pair_difference, query,
 };
 use generator::{pair, Pair, Rng};
 use sheets::{encode_sheet, renumber};
@@ -26,6 +27,8 @@ fn compare_tables(pair: &Pair, a: &[u32], b: &[u32], index: u64) {
     let found = pair_difference(&pair.images, &asked, [a, b], query);
     assert_eq!(found, None, "pair {index}");
     let found = nearest_difference(&pair.images, &asked, [a, b], nearest_in);
+    assert_eq!(found, None, "pair {index}");
+    let found = length_difference(&pair.images, &asked, [a, b], length_in);
     assert_eq!(found, None, "pair {index}");
 }
 

@@ -160,7 +160,7 @@ fn short(rng: &mut Rng) -> Case {
     let n = words.words.len() as u32;
     let need = needed(n) as u32;
     let any = rng.index(need as usize);
-    let less = rng.pick(&[need - 1, need - 1, 0, 4 * n + 5, 8 * n, 64, any]);
+    let less = rng.pick(&[need - 1, need - 1, 0, 5 * n - 6, 8 * n, 64, any]);
     match rng.below(4) {
         0 => case.table_len = less,
         1 => case.work_len = less,

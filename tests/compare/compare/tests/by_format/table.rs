@@ -21,14 +21,14 @@ pub fn words(sheet: &Sheet, hosts: &[HostEntry]) -> Vec<u32> {
         counted(types.map(|t| vec![canonical(sheet, t)])),
         list(&globals),
         counted(references.map(|(i, _)| vec![i])),
-        counted(spans(sheet).into_iter().map(|(pre, post)| vec![pre, post])),
+        counted(spans(sheet).into_iter().map(Vec::from)),
     ];
     let mut starts = vec![10];
     for section in &sections {
         starts.push(starts[starts.len() - 1] + section.len() as u32);
     }
     let length = starts.pop().expect("nine starts");
-    let mut words = vec![1, length];
+    let mut words = vec![2, length];
     words.extend(starts);
     words.extend(sections.into_iter().flatten());
     words
@@ -149,21 +149,34 @@ fn hook(sheet: &Sheet, hook: u32) -> u32 {
     })
 }
 
-fn spans(sheet: &Sheet) -> Vec<(u32, u32)> {
-    let mut spans = vec![(u32::MAX, 0); sheet.types.len()];
-    let mut entered = 0;
-    enter_below(sheet, None, &mut entered, &mut spans);
-    spans
+/// Pre, post and the chain length of each type.
+fn spans(sheet: &Sheet) -> Vec<[u32; 3]> {
+    let mut walk = Walk {
+        sheet,
+        entered: 0,
+        spans: vec![[u32::MAX, 0, 0]; sheet.types.len()],
+    };
+    walk.enter_below(None, 1);
+    walk.spans
 }
 
-/// Enters the roots, or below a struct its children, by rising number.
-fn enter_below(sheet: &Sheet, above: Option<u32>, entered: &mut u32, spans: &mut [(u32, u32)]) {
-    for (t, entry) in (0u32..).zip(&sheet.types) {
-        if matches!(entry, TypeEntry::Struct { parent, .. } if *parent == above) {
-            let pre = *entered;
-            *entered += 1;
-            enter_below(sheet, Some(t), entered, spans);
-            spans[t as usize] = (pre, *entered);
+/// The numbering walk.
+struct Walk<'s> {
+    sheet: &'s Sheet,
+    entered: u32,
+    spans: Vec<[u32; 3]>,
+}
+
+impl Walk<'_> {
+    /// Enters the roots, or below a struct its children, by rising number; their chains have this length.
+    fn enter_below(&mut self, above: Option<u32>, length: u32) {
+        for (t, entry) in (0u32..).zip(&self.sheet.types) {
+            if matches!(entry, TypeEntry::Struct { parent, .. } if *parent == above) {
+                let pre = self.entered;
+                self.entered += 1;
+                self.enter_below(Some(t), length + 1);
+                self.spans[t as usize] = [pre, self.entered, length];
+            }
         }
     }
 }

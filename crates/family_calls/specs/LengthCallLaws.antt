@@ -1,0 +1,70 @@
+-- What is said of chain lengths holds.
+use mathlib.Core.Path.{_≡_, sym, ap, _∙_, subst}
+use mathlib.Core.List.{List, [], _++_}
+use mathlib.Core.Option.{some}
+use Prim.Native.Nat.{ℕ, suc, _≤_}
+use native.Mathlib.Omega.{arith}
+use lib.ListN.{length, drop}
+use Rattle.sheet.specs.Module.{Module}
+use Rattle.sheet.specs.Decode.{decode}
+use Rattle.host.specs.Host.{HostFn}
+use Rattle.parents.specs.Parents.{mostOnChain, parentsFaults}
+use Rattle.spans.specs.Spans.{noPre}
+use Rattle.table.specs.Table.{tableWords}
+use Rattle.descends.specs.declared.ChainLength.{ChainLength}
+use Rattle.descends.specs.declared.ChainLength.the-variants.{Length}
+use Rattle.families.specs.Families.{isFrom, familyDepth}
+use Rattle.law_forest.specs.Once.{ChainRule}
+use Rattle.law_forest.specs.Accepted.{chain-rule}
+use Rattle.law_families.specs.Depths.{depth-other, depth-root, depth-child, depth-below}
+use Rattle.law_linked.specs.Sized.{query-from}
+use Rattle.law_linked.specs.Lengths.{length-answered, word-is-depth}
+use Rattle.law_renumbering.specs.AllRules.{parents-kept}
+use Rattle.law_renumbering.specs.Accepting.{cond-one, types-few}
+use Rattle.calls.specs.Calls.{AsksLength}
+use Rattle.calls.specs.CallLaws.{links, fronted}
+use Rattle.family_calls.specs.LengthCalls.{LengthsAsked, LengthsRight}
+
+-- ── on a table that load left ──
+
+module _ (hosts : List HostFn) (m : Module) (rest : List ℕ)
+    (kept : parentsFaults mostOnChain m ≡ []) (few : length (m .types) ≤ noPre) where
+  abbrev left : List ℕ
+  left = tableWords mostOnChain hosts m ++ rest
+
+  abbrev depth : ℕ → ℕ
+  depth t = familyDepth mostOnChain (m .types) t
+
+  rule : ChainRule mostOnChain (m .types)
+  rule = chain-rule mostOnChain (omega arith) m kept
+
+  says : (t : ℕ) {x : ChainLength} → AsksLength left t x → x ≡ Length (depth t)
+  says t q = q .answers ∙ length-answered mostOnChain hosts m rest t
+
+  told : (t : ℕ) {n : ℕ} → AsksLength left t (Length n) → n ≡ depth t
+  told t {n} q = let e : Length n ≡ Length (depth t) = says t q in cc
+
+  lengths-left : LengthsAsked m left
+  lengths-left = record {
+    declared = λ t x q. says t q;
+    others = λ t x q s. says t q ∙ ap Length (depth-other mostOnChain (m .types) t s);
+    spans = λ t x q h. says t q ∙ ap Length (sym (word-is-depth mostOnChain hosts m rest t h));
+    atRoots = λ t x q k. says t q ∙ ap Length (depth-root mostOnChain (m .types) rule t k);
+    atChildren = λ t p n x k a q.
+        says t q
+        ∙ ap Length (depth-child mostOnChain (m .types) rule t p k ∙ ap suc (sym (told p a)));
+    rising = λ t a n k d ne p q.
+        let from = cond-one (isFrom mostOnChain (m .types) t a)
+        (sym (query-from mostOnChain hosts m rest kept (omega arith) few t a) ∙ sym (d .answers)) in
+        omega (arith, told a p, told t q, depth-below mostOnChain (m .types) rule t a from ne);
+  }
+
+-- ── of every call ──
+
+pub lengths-right : LengthsRight
+unfolding LengthsRight
+lengths-right sheet hosts table work l left workLeft m d c words b =
+    let k = links sheet hosts table work l left workLeft c in
+    let f = fronted sheet hosts table work l left workLeft c m (k .hostList) d (k .lists) words b in
+    subst (LengthsAsked m) (sym (f .fronts))
+    (lengths-left (k .hostList) m (drop l words) (parents-kept mostOnChain (k .hostList) m (f .faultless)) (types-few sheet m d))
