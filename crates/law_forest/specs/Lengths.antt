@@ -1,4 +1,4 @@
--- Chain lengths: 1 at a root, the parent's + 1 elsewhere, never over the limit.
+-- Chain lengths: 1 at a root, the parent's + 1 elsewhere.
 use Prim.Native.Nat.{ℕ, zero, suc, _≤_}
 use mathlib.Core.Path.{_≡_, sym, ap, _∙_}
 use mathlib.Core.List.{List, _∷_}
@@ -7,14 +7,14 @@ use lib.Dec.{T}
 use lib.ListN.{length}
 use Rattle.sheet.specs.Module.{TypeDef}
 use Rattle.law_counting.specs.Counting.{count}
-use Rattle.parents.specs.Forest.{root, sub, entryAt, parents, walk, chain, chainLength}
+use Rattle.parents.specs.Forest.{root, sub, entryAt, parents, chain, chainLength}
 use Rattle.spans.specs.Spans.{isRoot, roots}
 use Rattle.law_forest.specs.Entries.{isStructEntry, ends}
 use Rattle.law_forest.specs.Chain.{kind, chain-up, chain-stop, ends-up, ends-zero, ends-other}
 use Rattle.law_forest.specs.Once.{ChainRule, count-roots}
 
 -- a chain that ends stays as it is with more room
-pub chain-more : (types : List TypeDef) (f t : ℕ) → T (ends types f t) → chain types f t ≡ chain types (suc f) t
+chain-more : (types : List TypeDef) (f t : ℕ) → T (ends types f t) → chain types f t ≡ chain types (suc f) t
 unfolding parents
 chain-more types zero t h = absurd (ends-zero types t h)
 chain-more types (suc f) t h = kind types t (chain types (suc f) t ≡ chain types (suc (suc f)) t)
@@ -24,18 +24,6 @@ chain-more types (suc f) t h = kind types t (chain types (suc f) t ≡ chain typ
     chain-up types f t p k
     ∙ ap (λ l. t ∷ l) (chain-more types f p (rw (ends-up types f t p k) at h))
     ∙ sym (chain-up types (suc f) t p k))
-
-chain-few : (types : List TypeDef) (f t : ℕ) → length (chain types f t) ≤ f
-unfolding parents
-chain-few types zero t = unfold chain walk in omega arith
-chain-few types (suc f) t = kind types t (length (chain types (suc f) t) ≤ suc f)
-    (λ k. rw (chain-stop types f t (ap parents k)) (omega arith))
-    (λ k. rw (chain-stop types f t (ap parents k)) (omega arith))
-    (λ p k. rw (chain-up types f t p k) (omega (arith, chain-few types f p)))
-
-pub length-few : (most : ℕ) (types : List TypeDef) (t : ℕ) → chainLength most types t ≤ most
-unfolding chainLength
-length-few most types t = chain-few types most t
 
 module _ (most : ℕ) (types : List TypeDef) (rule : ChainRule most types) where
   -- the chain from a child is the child and the chain from its parent
