@@ -1,12 +1,10 @@
 -- What is said of chain lengths holds.
 use mathlib.Core.Path.{_≡_, sym, ap, _∙_, subst}
 use mathlib.Core.List.{List, [], _++_}
-use mathlib.Core.Option.{some}
 use Prim.Native.Nat.{ℕ, suc, _≤_}
 use native.Mathlib.Omega.{arith}
 use lib.ListN.{length, drop}
 use Rattle.sheet.specs.Module.{Module}
-use Rattle.sheet.specs.Decode.{decode}
 use Rattle.host.specs.Host.{HostFn}
 use Rattle.parents.specs.Parents.{mostOnChain, parentsFaults}
 use Rattle.spans.specs.Spans.{noPre}

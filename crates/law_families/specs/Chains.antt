@@ -2,15 +2,14 @@
 use Prim.Native.Nat.{ℕ, zero, suc, _+_, _<_}
 use mathlib.Core.Path.{_≡_, refl, sym, ap, _∙_, subst}
 use mathlib.Core.Logic.{_⊎_, inl, inr}
-use mathlib.Core.List.{List, _∷_}
+use mathlib.Core.List.{List}
 use native.Mathlib.Omega.{arith}
 use lib.Dec.{T}
-use lib.ListN.{length}
 use Rattle.sheet.specs.Module.{TypeDef}
 use Rattle.parents.specs.Forest.{root, sub, entryAt, parents, walk, chain, chainLength}
 use Rattle.spans.specs.Spans.{Reaches, here, up}
 use Rattle.law_forest.specs.Entries.{isStructEntry, ends}
-use Rattle.law_forest.specs.Chain.{kind, chain-up, chain-stop, ends-up, ends-zero, ends-other, ends-struct, steps}
+use Rattle.law_forest.specs.Chain.{kind, chain-stop, ends-up, ends-zero, ends-other, ends-struct, steps}
 use Rattle.law_forest.specs.Once.{ChainRule}
 use Rattle.law_forest.specs.Lengths.{chain-child, length-child}
 use Rattle.families.specs.Families.{lastOf, rootOf}
