@@ -91,46 +91,52 @@ static int counted(const uint32_t *numbers, uint32_t kind, uint32_t count) {
     return numbers[PAQLLURI_COUNT_KIND] == kind && numbers[PAQLLURI_COUNT] == count && numbers[PAQLLURI_COUNT_NUMBERS] == BEFORE;
 }
 
-static int sized(const uint32_t *words, size_t length, uint32_t a, uint32_t kind, uint32_t size) {
+/* A query about one type: the size of a family, the length of a chain. */
+typedef void query(const uint32_t *table, size_t table_len, uint32_t type, uint32_t answer[2]);
+
+static int told(query *ask, const uint32_t *words, size_t length, uint32_t type, uint32_t kind, uint32_t count) {
     uint32_t numbers[PAQLLURI_COUNT_NUMBERS + 1] = {BEFORE, BEFORE, BEFORE};
-    paqlluri_family_size(words, length, a, numbers);
-    return counted(numbers, kind, size);
+    ask(words, length, type, numbers);
+    return counted(numbers, kind, count);
 }
 
-/* Lift; PassengerLift and GoodsLift below it; HydraulicGoodsLift below GoodsLift; three func types. The table is spoilt in the end. */
+static int sized(const uint32_t *words, size_t length, uint32_t a, uint32_t kind, uint32_t size) {
+    return told(paqlluri_family_size, words, length, a, kind, size);
+}
+
+static int is_long(const uint32_t *words, size_t length, uint32_t t, uint32_t kind, uint32_t chain) {
+    return told(paqlluri_chain_length, words, length, t, kind, chain);
+}
+
+/* Lift; PassengerLift and GoodsLift below it; HydraulicGoodsLift below GoodsLift; three func types; two numbers that are none. */
+#define LIFTS_ASKED 9
+
+/* The count of each of these, in the table alone and with words behind it; 0 of unknown numbers; 25 of what is no table. */
+static void of_lifts(const char *what, query *ask, const uint32_t *lifts, size_t length, const uint32_t expected[LIFTS_ASKED]) {
+    const uint32_t not_linked = PAQLLURI_NOT_LINKED;
+    uint32_t t;
+    for (t = 0; t < LIFTS_ASKED; t++)
+        expect(what, told(ask, lifts, length, t, 0, expected[t]) && told(ask, lifts, lifts[1], t, 0, expected[t]));
+    expect(what, told(ask, lifts, length, UINT32_MAX, 0, 0) && told(ask, lifts, length, 0x80000000u, 0, 0));
+    expect(what, told(ask, lifts, lifts[1] - 1, 3, not_linked, 0) && told(ask, lifts, 9, 99, not_linked, 0));
+    expect(what, told(ask, NULL, 0, 0, not_linked, 0) && told(ask, NULL, 0, UINT32_MAX, not_linked, 0));
+    expect(what, told(ask, lifts + 1, length - 1, 3, not_linked, 0));
+}
+
+/* The table is spoilt in the end. */
 static void sizes(uint32_t *lifts, size_t length) {
-    static const uint32_t expected[] = {4, 1, 2, 1, 0, 0, 0, 0, 0};
+    static const uint32_t expected[LIFTS_ASKED] = {4, 1, 2, 1, 0, 0, 0, 0, 0};
     const size_t spans = lifts[9];
-    uint32_t a;
-    for (a = 0; a < sizeof expected / sizeof *expected; a++)
-        expect("the size of a family", sized(lifts, length, a, 0, expected[a]) && sized(lifts, lifts[1], a, 0, expected[a]));
-    expect("an unknown number", sized(lifts, length, UINT32_MAX, 0, 0) && sized(lifts, length, 0x80000000u, 0, 0));
-    expect("a word short", sized(lifts, lifts[1] - 1, 0, PAQLLURI_NOT_LINKED, 0) && sized(lifts, 9, 0, PAQLLURI_NOT_LINKED, 0));
-    expect("no words", sized(NULL, 0, 0, PAQLLURI_NOT_LINKED, 0) && sized(NULL, 0, UINT32_MAX, PAQLLURI_NOT_LINKED, 0));
-    expect("words of something else", sized(lifts + 1, length - 1, 0, PAQLLURI_NOT_LINKED, 0));
+    of_lifts("the size of a family", paqlluri_family_size, lifts, length, expected);
     lifts[spans + 1] = lifts[spans + 2] + 1;
     expect("post below pre", sized(lifts, length, 0, 0, 0) && sized(lifts, length, 2, 0, 2));
     lifts[spans] = 0x80000000u;
     expect("more spans than words", sized(lifts, length, 0, PAQLLURI_NOT_LINKED, 0));
 }
 
-static int is_long(const uint32_t *words, size_t length, uint32_t t, uint32_t kind, uint32_t chain) {
-    uint32_t numbers[PAQLLURI_COUNT_NUMBERS + 1] = {BEFORE, BEFORE, BEFORE};
-    paqlluri_chain_length(words, length, t, numbers);
-    return counted(numbers, kind, chain);
-}
-
-/* The families are those of sizes. */
 static void lengths(const uint32_t *lifts, size_t length) {
-    static const uint32_t expected[] = {1, 2, 2, 3, 0, 0, 0, 0, 0};
-    const uint32_t not_linked = PAQLLURI_NOT_LINKED;
-    uint32_t t;
-    for (t = 0; t < sizeof expected / sizeof *expected; t++)
-        expect("the length of a chain", is_long(lifts, length, t, 0, expected[t]) && is_long(lifts, lifts[1], t, 0, expected[t]));
-    expect("the chain of no type", is_long(lifts, length, UINT32_MAX, 0, 0) && is_long(lifts, length, 0x80000000u, 0, 0));
-    expect("no chain in a table that is short", is_long(lifts, lifts[1] - 1, 3, not_linked, 0) && is_long(lifts, 9, 99, not_linked, 0));
-    expect("no chain in no words", is_long(NULL, 0, 0, not_linked, 0) && is_long(NULL, 0, UINT32_MAX, not_linked, 0));
-    expect("no chain in words of something else", is_long(lifts + 1, length - 1, 3, not_linked, 0));
+    static const uint32_t expected[LIFTS_ASKED] = {1, 2, 2, 3, 0, 0, 0, 0, 0};
+    of_lifts("the length of a chain", paqlluri_chain_length, lifts, length, expected);
 }
 
 static int one_way(const uint32_t *words, size_t length, uint32_t t, uint32_t u, uint32_t kind, uint32_t family) {
@@ -158,7 +164,7 @@ static int is_no_table(const uint32_t *words, size_t length, uint32_t t, uint32_
            sized(words, length, t, PAQLLURI_NOT_LINKED, 0) && is_long(words, length, t, PAQLLURI_NOT_LINKED, 0);
 }
 
-/* The families are those of sizes. */
+/* Of the same lifts. */
 static void nearest(const uint32_t *lifts, size_t length) {
     static const uint32_t expected[4][4] = {{0, 0, 0, 0}, {0, 1, 0, 0}, {0, 0, 2, 2}, {0, 0, 2, 3}};
     uint32_t t, u;
