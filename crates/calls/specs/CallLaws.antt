@@ -72,14 +72,18 @@ module _ (sheet hosts table work : List ℕ) (l : ℕ) (left workLeft : List ℕ
         fronts = sym (take-append-drop l words) ∙ ap (λ (ws : List ℕ). ws ++ drop l words) (b ∙ ap (take l) (c .leaves) ∙ w .front);
       }
 
+  -- what holds of the linked table of a module without faults, and any rest, holds of them
+  pub of-left : (P : List ℕ → Type 0) (m : Module) → decode sheet ≡ some m → (words : List ℕ) → Begins l left words →
+      ((hs : List HostFn) → moduleFaults mostOnChain hs m ≡ [] → (rest : List ℕ) → P (tableWords mostOnChain hs m ++ rest)) → P words
+  of-left P m d words b holds =
+      let f = fronted m (links .hostList) d (links .lists) words b in
+      subst P (sym (f .fronts)) (holds (links .hostList) (f .faultless) (drop l words))
+
 pub family-right : FamilyRight
 unfolding FamilyRight
 family-right sheet hosts table work l left workLeft m d c words b =
-    let k = links sheet hosts table work l left workLeft c in
-    let f = fronted sheet hosts table work l left workLeft c m (k .hostList) d (k .lists) words b in
-    subst (FamilyAsked m) (sym (f .fronts))
-    (family-asked m (tableWords mostOnChain (k .hostList) m ++ drop l words)
-    (family-front (k .hostList) m (f .faultless) (types-few sheet m d) (drop l words)))
+    of-left sheet hosts table work l left workLeft c (FamilyAsked m) m d words b λ hs f rest.
+    family-asked m (tableWords mostOnChain hs m ++ rest) (family-front hs m f (types-few sheet m d) rest)
 
 -- ── demand 3 ──
 

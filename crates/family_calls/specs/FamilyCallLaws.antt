@@ -6,7 +6,7 @@ use mathlib.Core.Option.{some}
 use Prim.Native.Nat.{ℕ, _+_, _≤_}
 use native.Mathlib.Omega.{arith}
 use lib.Dec.{T, eqb}
-use lib.ListN.{length, drop}
+use lib.ListN.{length}
 use Rattle.lists.specs.Lists.{keep, from, sum}
 use Rattle.lists.specs.ListLaws.{T-true, T-of}
 use Rattle.law_counting.specs.Counting.{sum-ext}
@@ -29,7 +29,7 @@ use Rattle.law_families.specs.FamilyLaws.{from-reaches, size-none, roots-all}
 use Rattle.law_linked.specs.Sized.{query-from, width-is-size, size-answered}
 use Rattle.law_renumbering.specs.AllRules.{parents-kept}
 use Rattle.law_renumbering.specs.Accepting.{types-few}
-use Rattle.calls.specs.CallLaws.{links, fronted}
+use Rattle.calls.specs.CallLaws.{of-left}
 use Rattle.error.specs.declared.LoadError.{LoadError}
 use Rattle.error.specs.declared.Loaded.{Loaded}
 use Rattle.error.specs.declared.Loaded.the-variants.{Accepted, Refused}
@@ -120,10 +120,8 @@ module _ (sheet : List ℕ) (hosts : List HostFn) (m : Module) (d : decode sheet
 pub sizes-right : SizesRight
 unfolding SizesRight
 sizes-right sheet hosts table work l left workLeft m d c ws b =
-    let k = links sheet hosts table work l left workLeft c in
-    let f = fronted sheet hosts table work l left workLeft c m (k .hostList) d (k .lists) ws b in
-    subst (SizesAsked sheet m) (sym (f .fronts))
-    (sizes-left sheet (k .hostList) m d (drop l ws) (parents-kept mostOnChain (k .hostList) m (f .faultless)) (types-few sheet m d))
+    of-left sheet hosts table work l left workLeft c (SizesAsked sheet m) m d ws b λ hs f rest.
+    sizes-left sheet hs m d rest (parents-kept mostOnChain hs m f) (types-few sheet m d)
 
 -- ── reports ──
 

@@ -1,9 +1,9 @@
 -- What is said of chain lengths holds.
-use mathlib.Core.Path.{_≡_, sym, ap, _∙_, subst}
+use mathlib.Core.Path.{_≡_, sym, ap, _∙_}
 use mathlib.Core.List.{List, [], _++_}
 use Prim.Native.Nat.{ℕ, suc, _≤_}
 use native.Mathlib.Omega.{arith}
-use lib.ListN.{length, drop}
+use lib.ListN.{length}
 use Rattle.sheet.specs.Module.{Module}
 use Rattle.host.specs.Host.{HostFn}
 use Rattle.parents.specs.Parents.{mostOnChain, parentsFaults}
@@ -20,7 +20,7 @@ use Rattle.law_linked.specs.Lengths.{length-answered, word-is-depth}
 use Rattle.law_renumbering.specs.AllRules.{parents-kept}
 use Rattle.law_renumbering.specs.Accepting.{cond-one, types-few}
 use Rattle.calls.specs.Calls.{AsksLength}
-use Rattle.calls.specs.CallLaws.{links, fronted}
+use Rattle.calls.specs.CallLaws.{of-left}
 use Rattle.family_calls.specs.LengthCalls.{LengthsAsked, LengthsRight}
 
 -- ── on a table that load left ──
@@ -62,7 +62,5 @@ module _ (hosts : List HostFn) (m : Module) (rest : List ℕ)
 pub lengths-right : LengthsRight
 unfolding LengthsRight
 lengths-right sheet hosts table work l left workLeft m d c words b =
-    let k = links sheet hosts table work l left workLeft c in
-    let f = fronted sheet hosts table work l left workLeft c m (k .hostList) d (k .lists) words b in
-    subst (LengthsAsked m) (sym (f .fronts))
-    (lengths-left (k .hostList) m (drop l words) (parents-kept mostOnChain (k .hostList) m (f .faultless)) (types-few sheet m d))
+    of-left sheet hosts table work l left workLeft c (LengthsAsked m) m d words b λ hs f rest.
+    lengths-left hs m rest (parents-kept mostOnChain hs m f) (types-few sheet m d)

@@ -1,5 +1,5 @@
 -- What is said of nearest families holds.
-use mathlib.Core.Path.{_≡_, refl, sym, ap, _∙_, subst, subst₂}
+use mathlib.Core.Path.{_≡_, refl, sym, ap, _∙_, subst₂}
 use mathlib.Core.Logic.{_↔_}
 use mathlib.Core.Bool.{Bool, true, false, cond}
 use mathlib.Core.List.{List, [], _++_}
@@ -34,7 +34,7 @@ use Rattle.law_renumbering.specs.Accepting.{types-few}
 use Rattle.law_renumbering.specs.Bijection.{bijection, listed, origins}
 use Rattle.law_renumbering.specs.Sheets.{as-renumbered}
 use Rattle.calls.specs.Calls.{Asks, NotShort, AgreeAsked, NumberingFree}
-use Rattle.calls.specs.CallLaws.{links, fronted, numbering-free}
+use Rattle.calls.specs.CallLaws.{links, fronted, of-left, numbering-free}
 use Rattle.family_calls.specs.NearestCalls.{AsksNearest, thenAsk, NearestAsked, NearestRight}
 use Rattle.family_calls.specs.NearestCalls.{familyImage, NearestMoves, NearestNumberingFree}
 
@@ -198,10 +198,8 @@ sound sheet hosts m d f = record { kept = parents-kept mostOnChain hosts m f; fe
 pub nearest-right : NearestRight
 unfolding NearestRight
 nearest-right sheet hosts table work l left workLeft m d c words b =
-    let k = links sheet hosts table work l left workLeft c in
-    let f = fronted sheet hosts table work l left workLeft c m (k .hostList) d (k .lists) words b in
-    subst (NearestAsked m) (sym (f .fronts))
-    (nearest-left (k .hostList) m (drop l words) (sound sheet (k .hostList) m d (f .faultless)))
+    of-left sheet hosts table work l left workLeft c (NearestAsked m) m d words b λ hs f rest.
+    nearest-left hs m rest (sound sheet hs m d f)
 
 pub accepted-long : (l : ℕ) → NotShort (Accepted l)
 unfolding NotShort

@@ -94,6 +94,10 @@ module _ (most : ℕ) (hosts : List HostFn) (m : Module) (rest : List ℕ) where
       (le-leb headerWords (spansStart left) (omega (arith, spans-start))))
       (le-leb (spansEnd left) (tableLength left) (omega (arith, spans-end)))
 
+  -- so the answer is not 25
+  pub if-linked : {A : Type 0} (x y : A) → cond (isLinked left) x y ≡ x
+  if-linked x y = ap (λ (b : Bool). cond b x y) linked
+
   span-word-at : (t j : ℕ) → t < length (m .types) → j < 3 →
       getD left (spansStart left + 1 + 3 * t + j) 0 ≡ getD (spanOf most (m .types) t (isStruct (typeAt (m .types) t))) j 0
   unfolding spanSection

@@ -2,7 +2,6 @@
 use Prim.Native.Nat.{ℕ, _<_}
 use mathlib.Core.Path.{_≡_, sym, ap, _∙_}
 use mathlib.Core.List.{List, _++_}
-use mathlib.Core.Bool.{cond}
 use lib.ListN.{length}
 use Rattle.sheet.specs.Module.{Module}
 use Rattle.host.specs.Host.{HostFn}
@@ -13,7 +12,7 @@ use Rattle.descends.specs.declared.ChainLength.the-variants.{Length, NotLinked}
 use Rattle.descends.specs.Lengths.{chainLengthIn}
 use Rattle.families.specs.Families.{familyDepth}
 use Rattle.law_families.specs.Depths.{depth-struct, depth-other}
-use Rattle.law_linked.specs.Answers.{linked, span-count, known-value, struct-length, other-length}
+use Rattle.law_linked.specs.Answers.{if-linked, span-count, known-value, struct-length, other-length}
 
 module _ (most : ℕ) (hosts : List HostFn) (m : Module) (rest : List ℕ) where
   abbrev left : List ℕ
@@ -33,5 +32,4 @@ module _ (most : ℕ) (hosts : List HostFn) (m : Module) (rest : List ℕ) where
   pub length-answered : (t : ℕ) → chainLengthIn left t ≡ Length (familyDepth most (m .types) t)
   unfolding chainLengthIn
   length-answered t =
-      ap (λ b. cond b (Length (ifKnown left t (lengthIn left t))) NotLinked) (linked most hosts m rest)
-      ∙ ap Length (known-is-depth t)
+      if-linked most hosts m rest (Length (ifKnown left t (lengthIn left t))) NotLinked ∙ ap Length (known-is-depth t)

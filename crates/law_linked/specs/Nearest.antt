@@ -2,7 +2,7 @@
 use Prim.Native.Nat.{ℕ, _≤_}
 use mathlib.Core.Path.{_≡_, refl, ap, _∙_, fun-ext}
 use mathlib.Core.List.{List, [], _++_}
-use mathlib.Core.Bool.{true, cond, _&&_}
+use mathlib.Core.Bool.{true, _&&_}
 use native.Mathlib.Omega.{arith}
 use lib.Dec.{T}
 use lib.ListN.{length}
@@ -24,7 +24,7 @@ use Rattle.law_forest.specs.Once.{ChainRule}
 use Rattle.law_forest.specs.Accepted.{chain-rule}
 use Rattle.law_families.specs.FamilyLaws.{from-reaches, from-spans, size-smaller}
 use Rattle.law_families.specs.NearestLaws.{nearest-by}
-use Rattle.law_linked.specs.Answers.{linked, span-count, within}
+use Rattle.law_linked.specs.Answers.{if-linked, span-count, within}
 use Rattle.law_linked.specs.Sized.{width-is-size}
 
 module _ (most : ℕ) (hosts : List HostFn) (m : Module) (rest : List ℕ) (kept : parentsFaults most m ≡ []) (one : 1 ≤ most)
@@ -66,4 +66,4 @@ module _ (most : ℕ) (hosts : List HostFn) (m : Module) (rest : List ℕ) (kept
 
   pub nearest-answered : (t u : ℕ) → nearestIn left t u ≡ familyOf (nearest most (m .types) t u)
   unfolding nearestIn
-  nearest-answered t u = λ i. cond (linked most hosts m rest i) (familyOf (nearest-found t u i)) NotLinked
+  nearest-answered t u = if-linked most hosts m rest (familyOf (nearestOf left t u)) NotLinked ∙ ap familyOf (nearest-found t u)

@@ -19,7 +19,7 @@ use Rattle.families.specs.Families.{isFrom, familySize}
 use Rattle.law_forest.specs.Once.{ChainRule}
 use Rattle.law_forest.specs.Accepted.{chain-rule}
 use Rattle.law_families.specs.FamilyLaws.{from-spans, size-span, size-none}
-use Rattle.law_linked.specs.Answers.{linked, answered, known-value, struct-pre, struct-post, other-post}
+use Rattle.law_linked.specs.Answers.{if-linked, answered, known-value, struct-pre, struct-post, other-post}
 
 module _ (most : ℕ) (hosts : List HostFn) (m : Module) (rest : List ℕ) (kept : parentsFaults most m ≡ []) (one : 1 ≤ most)
     (few : length (m .types) ≤ noPre) where
@@ -54,5 +54,4 @@ module _ (most : ℕ) (hosts : List HostFn) (m : Module) (rest : List ℕ) (kept
   pub size-answered : (a : ℕ) → sizeIn left a ≡ Size (familySize most (m .types) a)
   unfolding sizeIn
   size-answered a =
-      ap (λ b. cond b (Size (ifKnown left a (widthIn left a))) NotLinked) (linked most hosts m rest)
-      ∙ ap Size (known-is-size a)
+      if-linked most hosts m rest (Size (ifKnown left a (widthIn left a))) NotLinked ∙ ap Size (known-is-size a)

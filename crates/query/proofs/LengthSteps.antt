@@ -1,14 +1,14 @@
 -- The length of a chain, one law for each return.
 use Prim.Native.Nat.{ℕ, _+_, _*_, _<_}
-use mathlib.Core.Path.{_≡_, sym, ap, _∙_}
+use mathlib.Core.Path.{_≡_, ap, _∙_}
 use mathlib.Core.List.{List}
-use mathlib.Core.Bool.{Bool, true, false, cond}
+use mathlib.Core.Bool.{Bool, true, false}
 use lib.ListN.{length, getD}
 use Rattle.descends.specs.Descends.{isLinked, lengthIn, ifKnown}
 use Rattle.descends.specs.DescendsLaws.{length-is}
 use Rattle.descends.specs.declared.ChainLength.the-variants.{Length, NotLinked}
 use Rattle.descends.specs.Lengths.{chainLengthIn}
-use Rattle.query.proofs.QuerySteps.{asked}
+use Rattle.query.proofs.QuerySteps.{asked, by-linked}
 use Rattle.query.proofs.SizeSteps.{span-inside, known-told}
 
 -- the third word of a span
@@ -26,10 +26,10 @@ pub ruleset third = (third-inside, third-told)
 module _ (ws : List ℕ) (t : ℕ) {l : Bool} (e : l ≡ isLinked ws) where
   pub length-linked : l ≡ true → {r : ℕ} → r ≡ ifKnown ws t (lengthIn ws t) → Length r ≡ chainLengthIn ws t
   unfolding chainLengthIn
-  length-linked h k = ap Length k ∙ sym (ap (λ b. cond b (Length (ifKnown ws t (lengthIn ws t))) NotLinked) (sym e ∙ h))
+  length-linked h k = ap Length k ∙ by-linked ws (Length (ifKnown ws t (lengthIn ws t))) NotLinked e h
 
   pub length-unlinked : l ≡ false → NotLinked ≡ chainLengthIn ws t
   unfolding chainLengthIn
-  length-unlinked h = sym (ap (λ b. cond b (Length (ifKnown ws t (lengthIn ws t))) NotLinked) (sym e ∙ h))
+  length-unlinked h = by-linked ws (Length (ifKnown ws t (lengthIn ws t))) NotLinked e h
 
 pub ruleset lengths = (asked, length-linked, length-unlinked)

@@ -177,15 +177,19 @@ header-inside ws h = omega (arith, linked ws h .header)
 pub asked : (ws : List ℕ) {l : Bool} → l ≡ isLinked ws → l ≡ true → isLinked ws ≡ true
 asked ws e h = sym e ∙ h
 
+-- one answer of a linked table, another of other words
+pub by-linked : (ws : List ℕ) {l b : Bool} {A : Type 0} (x y : A) → l ≡ isLinked ws → l ≡ b → cond b x y ≡ cond (isLinked ws) x y
+by-linked ws x y e h = ap (λ b. cond b x y) (sym h ∙ e)
+
 module _ (ws : List ℕ) (t a : ℕ) {l : Bool} (e : l ≡ isLinked ws) where
   pub not-linked : l ≡ false → 25 ≡ descends ws t a
   unfolding descends
-  not-linked h = sym (ap (λ x. cond x (cond (isWithin ws t a) 1 0) 25) (sym e ∙ h))
+  not-linked h = by-linked ws (cond (isWithin ws t a) 1 0) 25 e h
 
   module _ (h : l ≡ true) {w : Bool} (f : w ≡ isWithin ws t a) where
     answer : {x : Bool} → w ≡ x → descends ws t a ≡ cond x 1 0
     unfolding descends
-    answer {x} k = ap (λ y. cond y (cond (isWithin ws t a) 1 0) 25) (sym e ∙ h) ∙ ap (λ y. cond y 1 0) (sym f ∙ k)
+    answer {x} k = sym (by-linked ws (cond (isWithin ws t a) 1 0) 25 e h) ∙ ap (λ y. cond y 1 0) (sym f ∙ k)
 
     pub yes-within : w ≡ true → 1 ≡ descends ws t a
     yes-within k = sym (answer k)

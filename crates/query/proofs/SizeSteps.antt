@@ -1,15 +1,15 @@
 -- The size of a family, one law for each return.
 use Prim.Native.Nat.{ℕ, _+_, _-_, _*_, _≤_, _<_}
-use mathlib.Core.Path.{_≡_, sym, ap, ap₂, _∙_}
+use mathlib.Core.Path.{_≡_, ap, ap₂, _∙_}
 use mathlib.Core.List.{List}
-use mathlib.Core.Bool.{Bool, true, false, cond}
+use mathlib.Core.Bool.{Bool, true, false}
 use native.Mathlib.Omega.{arith}
 use lib.ListN.{length, getD}
 use Rattle.descends.specs.Descends.{spansStart, isLinked, ifKnown}
 use Rattle.descends.specs.DescendsLaws.{pre-is, post-is, known-is, unknown-is}
 use Rattle.descends.specs.declared.FamilySize.the-variants.{Size, NotLinked}
 use Rattle.descends.specs.Sizes.{widthIn, sizeIn}
-use Rattle.query.proofs.QuerySteps.{spans-inside, start-inside, header-inside, asked}
+use Rattle.query.proofs.QuerySteps.{spans-inside, start-inside, header-inside, asked, by-linked}
 
 -- ── one span ──
 
@@ -46,10 +46,10 @@ pub ruleset known = (header-inside, start-inside, span-inside, known-told, unkno
 module _ (ws : List ℕ) (a : ℕ) {l : Bool} (e : l ≡ isLinked ws) where
   pub size-linked : l ≡ true → {r : ℕ} → r ≡ ifKnown ws a (widthIn ws a) → Size r ≡ sizeIn ws a
   unfolding sizeIn
-  size-linked h k = ap Size k ∙ sym (ap (λ b. cond b (Size (ifKnown ws a (widthIn ws a))) NotLinked) (sym e ∙ h))
+  size-linked h k = ap Size k ∙ by-linked ws (Size (ifKnown ws a (widthIn ws a))) NotLinked e h
 
   pub size-unlinked : l ≡ false → NotLinked ≡ sizeIn ws a
   unfolding sizeIn
-  size-unlinked h = sym (ap (λ b. cond b (Size (ifKnown ws a (widthIn ws a))) NotLinked) (sym e ∙ h))
+  size-unlinked h = by-linked ws (Size (ifKnown ws a (widthIn ws a))) NotLinked e h
 
 pub ruleset sizing = (asked, size-linked, size-unlinked)

@@ -20,7 +20,7 @@ use Rattle.descends.specs.Sizes.{widthIn}
 use Rattle.descends.specs.declared.NearestFamily.{NearestFamily}
 use Rattle.descends.specs.declared.NearestFamily.the-variants.{Found, NoFamily, NotLinked}
 use Rattle.descends.specs.Nearest.{holdsBoth, isNarrower, nearestOf, familyOf, nearestIn}
-use Rattle.query.proofs.QuerySteps.{spans-inside, start-inside, header-inside}
+use Rattle.query.proofs.QuerySteps.{spans-inside, start-inside, header-inside, asked, by-linked}
 use Rattle.query_nearest.specs.declared.Candidate.{Candidate}
 use Rattle.query_nearest.specs.Scan.{Spans, Asked, numbered, holds, bestFrom, leastOf, Scanned}
 
@@ -270,15 +270,12 @@ module _ {o : Option ℕ} {count r : ℕ} (e : o ≡ numbered count r) where
 pub ruleset answering = (header-inside, start-inside, unknown-first, unknown-second, is-asked, is-found, none-found)
 
 module _ (ws : List ℕ) (t u : ℕ) {l : Bool} (e : l ≡ isLinked ws) where
-  pub is-linked : l ≡ true → isLinked ws ≡ true
-  is-linked h = sym e ∙ h
-
   pub is-answer : l ≡ true → {r : NearestFamily} → r ≡ familyOf (nearestOf ws t u) → r ≡ nearestIn ws t u
   unfolding nearestIn
-  is-answer h k = k ∙ sym (ap (λ b. cond b (familyOf (nearestOf ws t u)) NotLinked) (sym e ∙ h))
+  is-answer h k = k ∙ by-linked ws (familyOf (nearestOf ws t u)) NotLinked e h
 
   pub no-table : l ≡ false → NotLinked ≡ nearestIn ws t u
   unfolding nearestIn
-  no-table h = sym (ap (λ b. cond b (familyOf (nearestOf ws t u)) NotLinked) (sym e ∙ h))
+  no-table h = by-linked ws (familyOf (nearestOf ws t u)) NotLinked e h
 
-pub ruleset nearing = (is-linked, is-answer, no-table)
+pub ruleset nearing = (asked, is-answer, no-table)
