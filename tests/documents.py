@@ -1,7 +1,9 @@
 """What tests/readme asks of docs/FORMAT.md: its examples are what the programs give, its tables are those of the definitions, of README.md
-and of the C header."""
-import os, re, subprocess, tempfile
+and of the C header; and that the limits of editions are the same everywhere."""
+import os, re, subprocess, sys, tempfile
 from tally import ROOT, compare
+sys.path.insert(0, ROOT + '/tools')
+from sheetform.blocks import EDITIONS, MOST_ON_CHAIN
 
 FORMAT = 'docs/FORMAT.md'
 
@@ -191,6 +193,17 @@ def hooks():
         found += [tuple(row[2:4])] * (int(last) + 1 - int(first))
     compare(f'{FORMAT}: the hook shapes', found, defined)
     compare(f'{FORMAT}: hooks', len(found), 31)
+
+# those of the tools are the definition's, and the bindings name them
+def editions():
+    source = text('crates/sheet/specs/Editions.antt')
+    newest = re.search(r'^newestEdition = (\d+)$', source, re.M).group(1)
+    second, first = re.search(r'^mostOnChain edition = cond \(eqb edition 2\) (\d+) (\d+)$', source, re.M).groups()
+    compare('the editions of a sheet', EDITIONS, list(range(1, int(newest) + 1)))
+    compare('the most types on a chain', MOST_ON_CHAIN, {1: int(first), 2: int(second)})
+    for path in ('bindings/c/paqlluri.h', 'bindings/rust/src/lib.rs'):
+        said = re.findall(r'at most (\d+) types in edition 1 and (\d+) in edition 2', re.sub(r'\n(///| \*)', '', text(path)))
+        compare(f'{path}: the most types on a chain', said, [(first, second)])
 
 def snake(name):
     return re.sub(r'(?<!^)(?=[A-Z])', '_', name).upper()

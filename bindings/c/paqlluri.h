@@ -31,7 +31,11 @@ extern "C" {
 #define PAQLLURI_VERSION_PATCH 0
 #define PAQLLURI_VERSION "0.1.0"
 
-/* A sheet and a host list have 1 to 4,096 blocks of 512 bytes, each with 127 words and a check word. */
+/*
+ * A sheet and a host list have 1 to 4,096 blocks of 512 bytes, each with 127 words and a check word. The first word is
+ * the edition: 1 or 2 of a sheet, 1 of a host list. A chain of parents has at most 256 types in edition 1 and 64 in
+ * edition 2; nothing else depends on it.
+ */
 #define PAQLLURI_BLOCK_BYTES 512
 #define PAQLLURI_BLOCK_WORDS 127
 #define PAQLLURI_MOST_BLOCKS 4096
@@ -91,7 +95,7 @@ enum paqlluri_kind {
     PAQLLURI_CATCH_NOT_DYN = 14,        /* a catch register is not dyn */
     PAQLLURI_TAIL_CALL_IN_TRY = 15,     /* a tail call under a handler */
     PAQLLURI_BAD_PARENT = 16,           /* a parent is no struct, or its fields are not the first of the child's */
-    PAQLLURI_INHERITANCE_TOO_DEEP = 17, /* over 256 types on a chain, or a cycle */
+    PAQLLURI_INHERITANCE_TOO_DEEP = 17, /* over 256 types on a chain, 64 in edition 2, or a cycle */
     PAQLLURI_BAD_CONSTANT = 18,         /* a constant holds itself or a later one, or nests over 64 deep */
     PAQLLURI_BAD_HOOK = 19,             /* a hook's callee has the wrong shape; number: the hook */
     PAQLLURI_BAD_START = 20,            /* the start function takes or gives something */
@@ -146,9 +150,10 @@ void paqlluri_load(const uint8_t *sheet, size_t sheet_len, const uint8_t *hosts,
                    size_t table_len, uint32_t *work, size_t work_len, uint32_t answer[6]);
 
 /*
- * The queries on a linked table, which may be longer than L. It begins with the word 2, and its spans, within the L words,
- * have three words for each type: pre, post and the chain length. Of any other words the answer is 25 (PAQLLURI_NOT_LINKED),
- * before all else; so it is of a stored table that begins with 1 and has two words a span, whose sheet is to be loaded again.
+ * The queries on a linked table, which may be longer than L. It begins with the word 2, whatever the sheet's edition, and its
+ * spans, within the L words, have three words for each type: pre, post and the chain length. Of any other words the answer is
+ * 25 (PAQLLURI_NOT_LINKED), before all else; so it is of a stored table that begins with 1 and has two words a span, whose
+ * sheet is to be loaded again.
  */
 
 /*

@@ -1,6 +1,6 @@
 /*
- * What the header says of pointers, lengths and lent words, tried on the empty sheet, and of families on samples/lifts.sheet.
- * Prints nothing where it holds.
+ * What the header says of pointers, lengths and lent words, tried on the empty sheet, of families on samples/lifts.sheet,
+ * and of editions on chains of types. Prints nothing where it holds.
  *
  *     test LIFTS HOSTS
  */
@@ -26,10 +26,10 @@ static void expect(const char *what, int holds) {
 }
 
 /* One block: these first words, zeros, and its check word, from a byte on that no uint32_t need begin at. */
-static const uint8_t *block(uint8_t *room, uint8_t second, uint8_t check) {
+static const uint8_t *block(uint8_t *room, uint8_t first, uint8_t second, uint8_t check) {
     uint8_t *bytes = room + 1;
     memset(bytes, 0, PAQLLURI_BLOCK_BYTES);
-    bytes[0] = 1;
+    bytes[0] = first;
     bytes[4] = second;
     bytes[PAQLLURI_BLOCK_BYTES - 4] = check;
     return bytes;
@@ -289,9 +289,87 @@ static void families(const uint8_t *empty, const char *sheet_name, const char *h
     structs(empty, sheet);
 }
 
+/* As many bytes as the chain of 257 types takes, which has 12 + 5 * 257 words. */
+#define CHAIN_BYTES (11 * PAQLLURI_BLOCK_BYTES)
+#define CHAIN_WORDS PAQLLURI_WORDS(CHAIN_BYTES)
+
+static void put(uint8_t *to, uint32_t word) {
+    size_t i;
+    for (i = 0; i < 4; i++)
+        to[i] = (uint8_t)(word >> (8 * i));
+}
+
+/* Where a word of the sheet stands; the check words of blocks before it are no such words. */
+static uint8_t *at(uint8_t *bytes, size_t word) {
+    return bytes + 4 * (word + word / PAQLLURI_BLOCK_WORDS);
+}
+
+static uint32_t check_word(const uint8_t *bytes, uint32_t number) {
+    uint32_t sum = number, i;
+    for (i = 0; i < PAQLLURI_BLOCK_BYTES - 4; i++)
+        sum += (i + 1) * bytes[i];
+    return sum % 65521;
+}
+
+/* One empty string, and structs without members named by it, each the parent of the next; how many bytes that takes. */
+static size_t chain(uint8_t *bytes, uint32_t edition, uint32_t types) {
+    const uint32_t words = 12 + 5 * types, blocks = (words + PAQLLURI_BLOCK_WORDS - 1) / PAQLLURI_BLOCK_WORDS;
+    uint32_t i;
+    memset(bytes, 0, CHAIN_BYTES);
+    put(at(bytes, 0), edition);
+    put(at(bytes, 1), words);
+    put(at(bytes, 2), 1);
+    put(at(bytes, 4), types);
+    for (i = 0; i < types; i++) {
+        put(at(bytes, 5 + 5 * i), 1);
+        put(at(bytes, 7 + 5 * i), i);
+    }
+    for (i = 0; i < blocks; i++) {
+        uint8_t *own = bytes + i * PAQLLURI_BLOCK_BYTES;
+        put(own + PAQLLURI_BLOCK_BYTES - 4, check_word(own, i));
+    }
+    return (size_t)blocks * PAQLLURI_BLOCK_BYTES;
+}
+
+/* Whether load gives such a chain this kind. An accepted one has a table that begins with 2, and its last type the whole chain. */
+static int chained(const uint8_t *hosts, uint32_t edition, uint32_t types, uint32_t kind) {
+    static uint8_t bytes[CHAIN_BYTES];
+    static uint32_t linked[CHAIN_WORDS], room[CHAIN_WORDS];
+    const size_t length = chain(bytes, edition, types);
+    const uint32_t number = kind == PAQLLURI_ACCEPTED ? 49 + 10 * types : 0, broken = kind == PAQLLURI_DECODE ? kind : 0;
+    linked[0] = BEFORE;
+    paqlluri_load(bytes, length, hosts, PAQLLURI_BLOCK_BYTES, linked, CHAIN_WORDS, room, CHAIN_WORDS, answer);
+    if (answer[PAQLLURI_KIND] != kind || answer[PAQLLURI_WORD] != 0 || answer[PAQLLURI_NUMBER] != number ||
+        !all(answer, 3, PAQLLURI_NUMBERS, 0) || !counts(bytes, length, broken, broken ? 0 : types))
+        return 0;
+    return kind == PAQLLURI_ACCEPTED ? linked[0] == 2 && is_long(linked, number, types - 1, 0, types) : linked[0] == BEFORE;
+}
+
+/* 256 types on a chain in edition 1 and 64 in edition 2; no other edition, and none but 1 of a host list. */
+static void editions(const uint8_t *sheet, const uint8_t *hosts) {
+    static uint8_t sheet_room[PAQLLURI_BLOCK_BYTES + 1], hosts_room[PAQLLURI_BLOCK_BYTES + 1];
+    const uint8_t *second = block(sheet_room, 2, 11, 57), *other = block(hosts_room, 2, 3, 17);
+    const uint32_t too_deep = PAQLLURI_INHERITANCE_TOO_DEEP;
+    expect("edition 1, within 256", chained(hosts, 1, 1, 0) && chained(hosts, 1, 65, 0));
+    expect("edition 1, up to 256", chained(hosts, 1, 255, 0) && chained(hosts, 1, 256, 0));
+    expect("edition 1, over 256", chained(hosts, 1, 257, too_deep));
+    expect("edition 2, up to 64", chained(hosts, 2, 1, 0) && chained(hosts, 2, 63, 0) && chained(hosts, 2, 64, 0));
+    expect("edition 2, over 64", chained(hosts, 2, 65, too_deep) && chained(hosts, 2, 256, too_deep) && chained(hosts, 2, 257, too_deep));
+    expect("edition 0", chained(hosts, 0, 1, PAQLLURI_DECODE) && chained(hosts, 0, 65, PAQLLURI_DECODE));
+    expect("edition 3", chained(hosts, 3, 1, PAQLLURI_DECODE) && chained(hosts, 3, 65, PAQLLURI_DECODE));
+    expect("the most as edition", chained(hosts, UINT32_MAX, 64, PAQLLURI_DECODE) && chained(hosts, 257, 64, PAQLLURI_DECODE));
+    lend();
+    paqlluri_load(sheet, PAQLLURI_BLOCK_BYTES, other, PAQLLURI_BLOCK_BYTES, table, ENOUGH, work, ENOUGH, answer);
+    expect("a host list of edition 2", untouched(PAQLLURI_BAD_HOST_LIST));
+    paqlluri_load(second, PAQLLURI_BLOCK_BYTES, other, PAQLLURI_BLOCK_BYTES, table, ENOUGH, work, ENOUGH, answer);
+    expect("both of edition 2", untouched(PAQLLURI_BAD_HOST_LIST));
+    paqlluri_load(second, PAQLLURI_BLOCK_BYTES, hosts, PAQLLURI_BLOCK_BYTES, table, ENOUGH, work, ENOUGH, answer);
+    expect("an empty sheet of edition 2", answer[PAQLLURI_KIND] == PAQLLURI_ACCEPTED && answer[PAQLLURI_NUMBER] == 49 && table[0] == 2);
+}
+
 int main(int argc, char **argv) {
     static uint8_t sheet_room[PAQLLURI_BLOCK_BYTES + 1], hosts_room[PAQLLURI_BLOCK_BYTES + 1];
-    const uint8_t *sheet = block(sheet_room, 11, 56), *hosts = block(hosts_room, 3, 16);
+    const uint8_t *sheet = block(sheet_room, 1, 11, 56), *hosts = block(hosts_room, 1, 3, 16);
     if (argc != 3) {
         fprintf(stderr, "usage: test LIFTS HOSTS\n");
         return 2;
@@ -299,6 +377,7 @@ int main(int argc, char **argv) {
     expect("lengths", PAQLLURI_WORDS(0) == 64 && PAQLLURI_WORDS(1024) == 64 + 8 * 254 && PAQLLURI_WORDS(SIZE_MAX) == 4161600 &&
                           PAQLLURI_WORDS(512 * 4096) == 4161600);
     loads(sheet, hosts);
+    editions(sheet, hosts);
     families(sheet, argv[1], argv[2]);
     return wrong;
 }

@@ -20,6 +20,6 @@ def line(expected):
 # a list of cases, and what adds one
 def collection():
     cases = []
-    def case(name, expected, **p):
-        cases.append((name, sheet(parts(**p)), line(expected)))
+    def case(name, expected, edition=1, **p):
+        cases.append((name, sheet(parts(**p), edition=edition), line(expected)))
     return cases, case

@@ -85,16 +85,31 @@ def lowest_first(n, top=None):
 def topmost_first(n, top=None):
     return [struct(parent=top)] + [struct(parent=t) for t in range(n - 1)]
 
+# the most types on a chain, by edition; what a case of the second is called
+for edition, most, of in ((1, 256, ''), (2, 64, '-of-edition-2')):
+    E = dict(A, edition=edition)
+    for name, chain in (('lowest-first' + of, lowest_first), ('topmost-first' + of, topmost_first)):
+        case(f'chain-{most}-{name}', HOLDS, types=chain(most), **E)
+        case(f'chain-{most + 1}-{name}', DEEP, types=chain(most + 1), **E)
+        case(f'chain-{most - 1}-below-absent-{name}', PARENT, types=chain(most - 1, 300), **E)
+        case(f'chain-{most - 1}-below-a-coroutine-{name}', PARENT, types=chain(most - 1, most - 1) + [COROUTINE], **E)
+    case(f'chain-{most}-below-absent-lowest-first{of}', DEEP, types=lowest_first(most, 300), **E)
+    case(f'chain-{most}-below-absent-topmost-first{of}', PARENT, types=topmost_first(most, 300), **E)
+    case(f'chain-{most}-below-a-coroutine-lowest-first{of}', DEEP, types=lowest_first(most, most) + [COROUTINE], **E)
+    case(f'chain-{most}-below-a-coroutine-topmost-first{of}', PARENT, types=topmost_first(most, most) + [COROUTINE], **E)
+    case(f'cycle-of-{most}{of}', DEEP, types=lowest_first(most, 0), **E)
+E2 = dict(A, edition=2)
+case('self-parent-of-edition-2', DEEP, types=[struct(parent=0)], **E2)
+case('cycle-first-breaks-the-prefix-of-edition-2', PARENT, types=[struct(parent=1), struct([(0, I8)], 0)], **E2)
+case('parent-absent-of-edition-2', PARENT, types=[struct(parent=1)], **E2)
+case('many-below-a-chain-of-63-of-edition-2', HOLDS, types=topmost_first(63) + [struct(parent=62)] * 140, **E2)
+case('one-below-a-chain-of-64-of-edition-2', DEEP, types=topmost_first(64) + [struct(parent=63)], **E2)
+# what is too long in the second edition, and the same in the first
 for name, chain in (('lowest-first', lowest_first), ('topmost-first', topmost_first)):
-    case('chain-256-' + name, HOLDS, types=chain(256), **A)
-    case('chain-257-' + name, DEEP, types=chain(257), **A)
-    case('chain-255-below-absent-' + name, PARENT, types=chain(255, 300), **A)
-    case('chain-255-below-a-coroutine-' + name, PARENT, types=chain(255, 255) + [COROUTINE], **A)
-case('chain-256-below-absent-lowest-first', DEEP, types=lowest_first(256, 300), **A)
-case('chain-256-below-absent-topmost-first', PARENT, types=topmost_first(256, 300), **A)
-case('chain-256-below-a-coroutine-lowest-first', DEEP, types=lowest_first(256, 256) + [COROUTINE], **A)
-case('chain-256-below-a-coroutine-topmost-first', PARENT, types=topmost_first(256, 256) + [COROUTINE], **A)
-case('cycle-of-256', DEEP, types=lowest_first(256, 0), **A)
+    case('chain-65-' + name, HOLDS, types=chain(65), **A)
+    case(f'chain-256-{name}-of-edition-2', DEEP, types=chain(256), **E2)
+case('chain-64-below-absent-lowest-first', PARENT, types=lowest_first(64, 300), **A)
+case('types-before-chain-65-of-edition-2', TYPE + [99], types=lowest_first(65) + [array(ref(99))], **E2)
 case('cycle-of-300-lowest-first', DEEP, types=lowest_first(300, 0), **A)
 case('cycle-of-300-topmost-first', DEEP, types=topmost_first(300, 299), **A)
 case('below-a-cycle-of-300', DEEP, types=lowest_first(301, 1), **A)
@@ -132,6 +147,9 @@ for name, kind in (('arrays', items), ('keys', lambda c: entries((c, 0))), ('val
 for name, first in (('empty-array', items()), ('empty-map', entries()), ('string', text(0))):
     case(f'depth-64-over-{name}', HOLDS, consts=nested(64, items, first), **A)
     case(f'depth-65-over-{name}', BAD_CONSTANT, consts=nested(65, items, first), **A)
+case('depth-64-of-edition-2', HOLDS, consts=nested(64, items), edition=2)
+case('depth-65-of-edition-2', BAD_CONSTANT, consts=nested(65, items), edition=2)
+case('chain-65-before-constants-of-edition-2', DEEP, types=lowest_first(65), consts=[text(9)], **E2)
 case('depth-65-before-a-string', BAD_CONSTANT, consts=nested(65, items) + [text(9)])
 case('depth-64-and-wide', HOLDS, consts=nested(64, items) + [items(*range(64))] * 9)
 case('depth-65-by-the-widest', BAD_CONSTANT, consts=nested(64, items) + [items(*range(64)), items(*range(65))])

@@ -14,9 +14,9 @@ def counts(p):
     return [len(p.get(k, ())) for k in ('strings', 'types', 'consts', 'imports', 'globals_', 'funcs', 'hooks')] + [p.get('start', 0), len(p.get('exports', ()))]
 
 CASES = []
-def intact(name, p, body=None):
+def intact(name, p, body=None, edition=1):
     body = body or parts(**p)
-    CASES.append((name, sheet(body), 'intact ' + ' '.join(map(str, [len(body) + 2] + counts(p)))))
+    CASES.append((name, sheet(body, edition=edition), 'intact ' + ' '.join(map(str, [len(body) + 2] + counts(p)))))
 def broken(name, data):
     CASES.append((name, data, 'broken'))
 
@@ -29,7 +29,11 @@ broken('one-byte-more', sheet(EMPTY) + b'\0')
 broken('one-block-too-many', sheet(EMPTY, count=2))
 broken('check-word-congruent', sheet(EMPTY)[:508] + (56 + 65521).to_bytes(4, 'little'))
 broken('check-word-off-by-one', sheet(EMPTY)[:508] + (57).to_bytes(4, 'little'))
-broken('edition-2', sheet(EMPTY, edition=2))
+intact('edition-2', {}, edition=2)
+intact('rich-of-edition-2', RICH, edition=2)
+broken('edition-0', sheet(EMPTY, edition=0))
+broken('edition-3', sheet(EMPTY, edition=3))
+broken('edition-most', sheet(EMPTY, edition=4294967295))
 broken('n-too-small', sheet(EMPTY, n=10))
 broken('n-too-large', sheet(EMPTY, n=12))
 broken('word-after-n', blocks([1, 11] + [0] * 9 + [1]))

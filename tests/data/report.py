@@ -41,9 +41,9 @@ def renumbered(parents, image):
 # ── cases: a name, the bytes in the file of that name, the six numbers, and the declared parents, {} of a refused sheet ──
 
 CASES = []
-def case(name, expected, types=(), strings=('',), **p):
+def case(name, expected, types=(), strings=('',), edition=1, **p):
     parents = declared(types) if expected[0] == 0 else {}
-    CASES.append((name, sheet(parts(strings=strings, types=types, **p)), line(expected), parents))
+    CASES.append((name, sheet(parts(strings=strings, types=types, **p), edition=edition), line(expected), parents))
 
 def file(name, data):
     CASES.append((name, data, line(BROKEN), {}))
@@ -69,6 +69,11 @@ case('chain-of-three-falling', structs(3), [struct(parent=1), struct(parent=2), 
 case('chain-of-256', structs(256), LONGEST)
 case('chain-of-256-falling', structs(256), [struct(parent=k + 1) for k in range(255)] + [struct()])
 case('chain-of-257', DEEP, LONGEST + [struct(parent=255)])
+case('chain-of-64-of-edition-2', structs(64), LONGEST[:64], edition=2)
+case('chain-of-64-falling-of-edition-2', structs(64), [struct(parent=k + 1) for k in range(63)] + [struct()], edition=2)
+case('chain-of-65-of-edition-2', DEEP, LONGEST[:65], edition=2)
+case('chain-of-65', structs(65), LONGEST[:65])
+case('edition-2', accepted(), strings=(), edition=2)
 case('one-struct-behind-others', structs(1, 3 * COROUTINE_TYPE), [COROUTINE] * 3 + [struct()])
 # two forests, and types that are no struct before, between and behind their members
 MIXED = [COROUTINE, struct(), struct(parent=1), COROUTINE, COROUTINE, struct(parent=2), struct(), struct(parent=1), COROUTINE,
@@ -108,7 +113,8 @@ file('text', b'any bytes may come\n')
 file('a-byte-short', sheet(parts())[:-1])
 file('a-block-too-many', sheet(parts(), count=2))
 file('check-word-congruent', sheet(parts())[:508] + (56 + 65521).to_bytes(4, 'little'))
-file('edition-2', sheet(parts(), edition=2))
+file('edition-0', sheet(parts(), edition=0))
+file('edition-3', sheet(parts(), edition=3))
 
 # ── samples ──
 def read(path):
@@ -118,6 +124,7 @@ def read(path):
 # of the two tariffs, as their texts have them
 FAMILIES = dict(lifts={0: -1, 1: 0, 2: 0, 3: 2},
                 tariff={0: -1, 1: 0, 2: 1, 3: 2, 4: 3, 5: 1, 6: 5, 7: 0, 8: 7, 9: -1, 10: 9, 11: 9, 12: -1})
+FAMILIES['longest-chain'] = {t: t - 1 for t in range(64)}
 ROWS = re.findall(r'^\| ([a-z-]+) \| .* \| ([\d ]+) \|$', read(SAMPLES + '/README.md').decode(), re.M)
 for name, numbers in ROWS:
     if name != 'hosts-twice':

@@ -7,11 +7,14 @@ The program prints 0 for the length of an accepted sheet. It takes at most 16 bl
 """
 import code, ends, front, instructions, records
 from answers import BROKEN, HOLDS, collection, line
-from sheets import COROUTINE, array, host_list, ref, write
+from sheets import COROUTINE, MOST, array, host_list, ref, write
 
 CASES, case = collection()
 case('empty', HOLDS)
 CASES.append(('no-bytes', b'', line(BROKEN)))
+case('empty-of-edition-2', HOLDS, edition=2)
+for other in (0, 3, MOST):
+    case(f'edition-{other}', BROKEN, edition=other)
 case('type-kind-7', BROKEN, types=[[7], array(ref(9))])
 # N = 11 + 2,021 = 2,032 words fill 16 blocks; a block more counts as no bytes
 case('sixteen-blocks', HOLDS, types=[COROUTINE] * 2021)

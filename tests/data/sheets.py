@@ -93,8 +93,8 @@ def inst(code, a=0, b=0, c=0, d=0, w=None):
     return [code | d << 8 | a << 16, b | c << 16 if w is None else w]
 
 # members are module, name, and whether it is the scheduler
-def host_list(members):
-    return sheet(listed(*[string(module) + string(name) + [int(scheduler)] for module, name, scheduler in members]))
+def host_list(members, edition=1):
+    return sheet(listed(*[string(module) + string(name) + [int(scheduler)] for module, name, scheduler in members]), edition=edition)
 
 # what the program of that crate is run on and must print, a case a file: its name, its bytes, and what is expected of it
 def write(crate, cases, missing, hosts=None):

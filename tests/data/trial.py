@@ -31,6 +31,11 @@ def accepted(*words):
 
 case('empty', accepted())
 CASES.append(('no-bytes', b'', line(BROKEN)))
+# the editions of a sheet, and of a host list, which has the first alone
+for edition, expected in ((0, BROKEN), (2, accepted()), (3, BROKEN)):
+    case(f'edition-{edition}', expected, edition=edition)
+    CASES.append((f'H-edition-{edition}', host_list([], edition), line(NOT_A_LIST)))
+CASES.append(('H-edition-1', host_list([]), line(accepted())))
 
 # ── RFC 3629: a sheet of one string, a host list of one module ──
 def octets(expected, *sequences):
@@ -55,8 +60,18 @@ case('family-before-its-root', accepted(3 * struct_type()), strings=['s'], types
 # the root's fields are the first of each child's
 case('family-with-fields', accepted(struct_type(2, 1, 2), struct_type(3, 2, 3), struct_type(2, 1, 2)), strings=['x', 'y', 'z'],
      types=[struct([(0, I64), (1, STR)]), struct([(0, I64), (1, STR), (2, DYN)], parent=0), struct([(0, I64), (1, STR)], parent=0)])
-case('family-of-256', accepted(256 * struct_type()), strings=['s'], types=[struct()] + [struct(parent=k) for k in range(255)])
-case('family-of-257', DEEP, strings=['s'], types=[struct()] + [struct(parent=k) for k in range(256)])
+
+# so many structs on one chain
+def chain(n):
+    return dict(strings=['s'], types=[struct()] + [struct(parent=k) for k in range(n - 1)])
+
+for n in (65, 256):
+    case(f'family-of-{n}', accepted(n * struct_type()), **chain(n))
+case('family-of-257', DEEP, **chain(257))
+case('family-of-64-of-edition-2', accepted(64 * struct_type()), edition=2, **chain(64))
+for n in (65, 256):
+    case(f'family-of-{n}-of-edition-2', DEEP, edition=2, **chain(n))
+case('own-parent-of-edition-2', DEEP, strings=['s'], types=[struct(parent=0)], edition=2)
 case('own-parent', DEEP, strings=['s'], types=[struct(parent=0)])
 # strings 0 and 1 are equal: two names for four fields, and two for three methods
 SHARED = dict(strings=['a', 'a', 'b'])

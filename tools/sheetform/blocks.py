@@ -5,6 +5,10 @@ from operator import mul
 BLOCK, PER_BLOCK, MOST_BLOCKS = 512, 127, 4096
 MOST_WORDS = PER_BLOCK * MOST_BLOCKS
 TOP = 4294967295
+# by the edition of a sheet, the most types on a chain of parents
+MOST_ON_CHAIN = {1: 256, 2: 64}
+# what word 0 of a sheet can be, and of a host list
+EDITIONS, HOST_EDITIONS = list(MOST_ON_CHAIN), [1]
 
 class Broken(Exception):
     """Bytes that break the layout: where, inside what, and what was expected."""
@@ -23,15 +27,15 @@ def block(number, body):
     return body + struct.pack('<I', check_word(number, body))
 
 # edition and length stand before the words of the lists
-def to_blocks(body):
-    words = [1, len(body) + 2, *body]
+def to_blocks(edition, body):
+    words = [edition, len(body) + 2, *body]
     count = -(-len(words) // PER_BLOCK)
     words += [0] * (PER_BLOCK * count - len(words))
     parts = [struct.pack('<127I', *words[k:k + PER_BLOCK]) for k in range(0, len(words), PER_BLOCK)]
     return b''.join(block(number, part) for number, part in enumerate(parts))
 
-# the words of intact blocks, and the length that word 1 gives
-def from_blocks(data):
+# the words of intact blocks of one of these editions, and the length that word 1 gives
+def from_blocks(data, editions=EDITIONS):
     count, rest = divmod(len(data), BLOCK)
     if rest or not 1 <= count <= MOST_BLOCKS:
         raise Broken(f'{len(data)} bytes', f'expected 1 to {MOST_BLOCKS} blocks of {BLOCK} bytes')
@@ -43,11 +47,14 @@ def from_blocks(data):
         if found != expected:
             raise Broken(f'block {number}', f'check word {found}; expected {expected}')
         words += own
-    return words, length(words, count)
+    return words, length(words, count, editions)
 
-def length(words, count):
-    if words[0] != 1:
-        raise Broken('word 0', f'edition {words[0]}; expected 1')
+def either_edition(editions):
+    return ' or '.join(map(str, editions))
+
+def length(words, count, editions):
+    if words[0] not in editions:
+        raise Broken('word 0', f'edition {words[0]}; expected {either_edition(editions)}')
     least, most = max(2, PER_BLOCK * (count - 1) + 1), PER_BLOCK * count
     if not least <= words[1] <= most:
         raise Broken('word 1', f'length {words[1]}; expected {least} to {most}, so that it ends in the last of {count} blocks')

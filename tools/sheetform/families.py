@@ -1,14 +1,16 @@
 """The families of a sheet: each struct that has no parent, with all that descend from it by declared parents."""
+from .blocks import MOST_ON_CHAIN
 from .labels import Labels
 from .module import Struct
 from .show import quoted
 
 # of a struct's own fields, or of types, and of a name so many are shown
-CHAIN, FIELDS, LONGEST = 256, 24, 60
+FIELDS, LONGEST = 24, 60
 
 class Families:
     def __init__(self, module):
         self.module, self.types = module, module.types
+        self.limit = MOST_ON_CHAIN[module.edition]
         self.labels = Labels(module).lists['type']
         self.structs = [t for t, made in enumerate(self.types) if isinstance(made, Struct)]
         self.children = {t: [] for t in self.structs}
@@ -73,7 +75,7 @@ class Families:
     def remark(self, t):
         if not self.begins(t):
             return "its fields do not begin with its parent's"
-        return f'more than {CHAIN} types on its chain' if self.depth.get(t, 0) >= CHAIN else ''
+        return f'more than {self.limit} types on its chain' if self.depth.get(t, 0) >= self.limit else ''
 
     # whether rule 3 is broken; which fault the loader finds first is its to say
     def refused(self):
@@ -143,7 +145,7 @@ def branches(families):
             open_ = []
             continue
         # branches over the longest chain that is accepted are not drawn
-        open_ = open_[:min(depth, CHAIN) - 1]
+        open_ = open_[:min(depth, families.limit) - 1]
         before = ''.join('│  ' if follows else '   ' for follows in open_)
         yield t, f'{before}{"└─" if t in last else "├─"} '
         open_.append(t not in last)

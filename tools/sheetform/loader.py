@@ -1,6 +1,7 @@
 """Runs the loader on a sheet and a host list, and says what the six numbers mean. The words are README.md's."""
 import signal, subprocess, tempfile
 from . import native
+from .blocks import MOST_ON_CHAIN
 from .files import Failed, say
 
 KINDS = {
@@ -20,7 +21,7 @@ KINDS = {
     14: 'a catch register is not dyn',
     15: 'a tail call under a handler',
     16: "a parent is no struct, or its fields are not the first of the child's",
-    17: 'over 256 types on a chain, or a cycle',
+    17: f'over {MOST_ON_CHAIN[1]} types on a chain, {MOST_ON_CHAIN[2]} in edition 2, or a cycle',
     18: 'a constant holds itself or a later one, or nests over 64 deep',
     19: "a hook's callee has the wrong shape",
     20: 'the start function takes or gives something',
@@ -115,6 +116,10 @@ def strings(sheet):
         at += 4 + -(-word(at) // 4) * 4
     return texts
 
+# the words of a kind; of 17 those of the sheet's own edition, its first word
+def words_of(sheet, kind):
+    return f'over {MOST_ON_CHAIN[int.from_bytes(sheet[:4], "little")]} types on a chain, or a cycle' if kind == 17 else KINDS[kind]
+
 # what word, number and second say of that kind
 def details(sheet, kind, word, number, second):
     if kind == 2:
@@ -132,7 +137,7 @@ def meaning(sheet, numbers):
     kind, word, number, second, function, position = numbers
     if kind == 0:
         return f'accepted; the linked table has {number} words'
-    said = f'refused, kind {kind}: {KINDS[kind]}{details(sheet, kind, word, number, second)}'
+    said = f'refused, kind {kind}: {words_of(sheet, kind)}{details(sheet, kind, word, number, second)}'
     if function:
         said += f'\nin function {function - 1}' + (f', instruction {position - 1}' if position else '')
     return said

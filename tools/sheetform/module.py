@@ -1,7 +1,7 @@
 """A sheet's lists and a host list's: each described once, for reading and for writing."""
 from collections import namedtuple
 import struct
-from .blocks import Broken, from_blocks, to_blocks
+from .blocks import EDITIONS, HOST_EDITIONS, Broken, from_blocks, to_blocks
 from .codes import CALLEES, EXPORTS, HOOK_COUNT, HOST_KINDS, OPS
 
 # numbers that are "+ 1" in docs/FORMAT.md, "Lists" are kept as stored: parent, const, start, and the name of a parameter
@@ -21,7 +21,8 @@ Global = namedtuple('Global', 'type const')
 Function = namedtuple('Function', 'sig registers params shapes captures names type_refs handlers tables code')
 Hook = namedtuple('Hook', 'hook callee index')
 Export = namedtuple('Export', 'kind name index')
-Module = namedtuple('Module', 'strings types consts imports globals functions hooks start exports')
+# the edition stands before the lists, in word 0
+Module = namedtuple('Module', 'strings types consts imports globals functions hooks start exports edition', defaults=[1])
 Host = namedtuple('Host', 'module name kind')
 Hosts = namedtuple('Hosts', 'hosts')
 TYPES = [Func, Struct, Array, Map, Cell, Iter, Coroutine]
@@ -178,13 +179,13 @@ SHEET = Record(Module, Many('string', String()), Many('type', TYPE), Many('const
 HOST_LIST = Record(Hosts, Many('host function', Record(Host, String(), String(), Word('host kind', len(HOST_KINDS)))))
 
 def read(data, schema):
-    words, end = from_blocks(data)
+    words, end = from_blocks(data, EDITIONS if schema is SHEET else HOST_EDITIONS)
     r = Reader(words, end)
     r.at = 2
     found = schema.read(r)
     if r.at != end:
         raise Broken(f'word {r.at}', f'the lists end here; expected them to fill the length, {end} words')
-    return found
+    return found._replace(edition=words[0]) if schema is SHEET else found
 
 # an intact sheet is a sheet, even where it could be read as a host list too
 def read_either(data):
@@ -202,4 +203,4 @@ def body(found):
     return out
 
 def write(found):
-    return to_blocks(body(found))
+    return to_blocks(found.edition if isinstance(found, Module) else HOST_EDITIONS[0], body(found))

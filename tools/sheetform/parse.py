@@ -1,5 +1,5 @@
 """A sheet or a host list from its text: first the items and their labels, then each item in the order of the text."""
-from .blocks import MOST_WORDS, TOP
+from .blocks import EDITIONS, MOST_WORDS, TOP, either_edition
 from .codes import CALLEES, EXPORTS, FLAGS, HOOKS, HOOK_COUNT, HOST_KINDS, REF, VALUE_TYPES
 from .damage import Damage
 from .function import ITEMS, read_function
@@ -83,8 +83,8 @@ def items(lines, known):
 
 class Sheet:
     """The lists of a sheet, filled item by item."""
-    def __init__(self, found):
-        self.names, self.module, self.damage = Names(), Module([], [], [], [], [], [], [], None, []), Damage()
+    def __init__(self, edition, found):
+        self.names, self.module, self.damage = Names(), Module([], [], [], [], [], [], [], None, [], edition), Damage()
         self.start = 0
         for item in found:
             if item.word == 'strings':
@@ -239,15 +239,25 @@ def host_list(found):
         hosts.append(Host(*texts, kind))
     return Hosts(hosts), damage
 
+# the line behind `sheet`; a sheet that names no edition is of edition 1
+def edition_of(line):
+    if line.peek().kind == 'end':
+        return 1
+    line.word("'edition' or the end of the line", ['edition'])
+    if line.peek().kind != 'number' or line.peek().value not in EDITIONS:
+        raise line.expected(f'an edition, {either_edition(EDITIONS)}')
+    edition = line.next().value
+    line.finish()
+    return edition
+
 # the module or host list, and the damage that its text asks for
 def parse(text):
     lines = [Line(number, source) for number, source in enumerate(text.split('\n'), 1)]
     lines = [line for line in lines if line.tokens] or [lines[-1]]
-    what = lines[0].word("'sheet' or 'hosts' first", ['sheet', 'hosts'])
+    if lines[0].word("'sheet' or 'hosts' first", ['sheet', 'hosts']) == 'sheet':
+        return Sheet(edition_of(lines[0]), items(lines[1:], SHEET_ITEMS)).made()
     lines[0].finish()
-    if what == 'hosts':
-        return host_list(items(lines[1:], HOST_ITEMS))
-    return Sheet(items(lines[1:], SHEET_ITEMS)).made()
+    return host_list(items(lines[1:], HOST_ITEMS))
 
 # the bytes of a text
 def written(text):

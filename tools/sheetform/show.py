@@ -67,7 +67,7 @@ class Printer:
         self.part([self.hook(h) for h in m.hooks])
         self.part([f'start {self.labels("function", m.start - 1)}'] if m.start else [])
         self.part([f'export {EXPORTS[e.kind]} {self.string(e.name)} {self.labels(EXPORTS[e.kind], e.index)}' for e in m.exports])
-        inner, self.lines = self.lines, ['sheet']
+        inner, self.lines = self.lines, ['sheet' if m.edition == 1 else f'sheet edition {m.edition}']
         if list(self.used) != list(range(len(m.strings))):
             self.part(['strings', *(f'  {quoted(text)}' for text in m.strings)])
         self.part(inner)

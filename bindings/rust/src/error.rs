@@ -141,7 +141,7 @@ pub enum LoadErrorKind {
     TailCallInTry,
     /// 16: a parent is no struct, or its fields are not the first of the child's.
     BadParent,
-    /// 17: over 256 types on a chain, or a cycle.
+    /// 17: over 256 types on a chain, 64 in edition 2, or a cycle.
     InheritanceTooDeep,
     /// 18: a constant holds itself or a later one, or nests over 64 deep.
     BadConstant,
@@ -277,7 +277,7 @@ impl fmt::Display for LoadErrorKind {
             Self::BadParent => {
                 "a parent is no struct, or its fields are not the first of the child's"
             }
-            Self::InheritanceTooDeep => "over 256 types on a chain, or a cycle",
+            Self::InheritanceTooDeep => "over 256 types on a chain, 64 in edition 2, or a cycle",
             Self::BadConstant => "a constant holds itself or a later one, or nests over 64 deep",
             Self::BadHook(_) => "a hook's callee has the wrong shape",
             Self::BadStart => "the start function takes or gives something",

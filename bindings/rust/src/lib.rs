@@ -84,6 +84,9 @@ pub const MOST_WORDS: usize = table_words(MOST_BLOCKS * BLOCK);
 
 /// Loads a sheet under a host list into the borrowed slice `table`.
 ///
+/// The first word of a sheet is its edition, 1 or 2, that of a host list 1. A chain of parents has at most
+/// 256 types in edition 1 and 64 in edition 2; nothing else depends on it.
+///
 /// Accepted: the first words of `table` are the linked table, and those after them are as before.
 /// Refused: no word of `table` is changed. `work` is all zero after the call, except that
 /// [`Decode`](LoadErrorKind::Decode), [`BadHostList`](LoadErrorKind::BadHostList) and
@@ -195,7 +198,7 @@ pub fn nearest(words: &[u32], t: TypeId, u: TypeId) -> Result<Option<TypeId>, No
 
 /// A linked table: the words that [`load`] wrote, or stored ones.
 ///
-/// It begins with the word 2, and its spans have three words for each type: pre, post and the chain length.
+/// It begins with the word 2, whatever the sheet's edition, and its spans have three words for each type: pre, post and the chain length.
 #[derive(Clone, Copy, Debug, PartialEq, Eq)]
 pub struct Linked<'a> {
     words: &'a [u32],

@@ -1,4 +1,4 @@
-//! The library on the samples, on wrong words, and on a small stack.
+//! The library on the samples, on chains of both editions, and on wrong words.
 
 use paqlluri::{
     chain_length, count_structs, load, nearest, raw, table_words, work_words, BrokenLayout, Linked,
@@ -8,17 +8,40 @@ use paqlluri::{
 const EMPTY: &[u8] = include_bytes!("../../../samples/empty.sheet");
 const LIFTS: &[u8] = include_bytes!("../../../samples/lifts.sheet");
 const SELF_PARENT: &[u8] = include_bytes!("../../../samples/self-parent.sheet");
+const LONGEST_CHAIN: &[u8] = include_bytes!("../../../samples/longest-chain.sheet");
+const CHAIN_TOO_LONG: &[u8] = include_bytes!("../../../samples/chain-too-long.sheet");
 const HOSTS: &[u8] = include_bytes!("../../../samples/hosts");
 const README: &str = include_str!("../../../README.md");
 
 /// Words that neither a table nor a cleared work slice has.
 const BEFORE: u32 = 0xa5a5_a5a5;
 
-/// The words 1, 3, 0 and the check word of their block.
-fn no_hosts() -> Vec<u8> {
-    let mut words = [0; 128];
-    (words[0], words[1], words[127]) = (1, 3, 16);
-    words.iter().flat_map(|w: &u32| w.to_le_bytes()).collect()
+/// These words in blocks with their check words.
+fn blocks(words: &[u32]) -> Vec<u8> {
+    let mut bytes = Vec::new();
+    for (number, part) in (0..).zip(words.chunks(127)) {
+        let mut own: Vec<u8> = part.iter().flat_map(|w| w.to_le_bytes()).collect();
+        own.resize(508, 0);
+        let sum: u32 = (1..).zip(&own).map(|(k, &b)| k * u32::from(b)).sum();
+        bytes.extend(own);
+        bytes.extend(((number + sum) % 65521).to_le_bytes());
+    }
+    bytes
+}
+
+/// An empty host list; load takes it in edition 1.
+fn no_hosts(edition: u32) -> Vec<u8> {
+    blocks(&[edition, 3, 0])
+}
+
+/// One empty string, and structs without members named by it, each the parent of the next.
+fn chain(edition: u32, types: u32) -> Vec<u8> {
+    let mut words = vec![edition, 12 + 5 * types, 1, 0, types];
+    for parent in 0..types {
+        words.extend([1, 0, parent, 0, 0]);
+    }
+    words.extend([0; 7]);
+    blocks(&words)
 }
 
 /// The verdict in slices of so many words, and the slices after it.
@@ -221,9 +244,79 @@ fn nearest_families_of_words_that_no_load_wrote() {
 }
 
 #[test]
+fn the_samples_of_edition_2() {
+    let (verdict, [table, _]) = tried(LONGEST_CHAIN, HOSTS, table_words(LONGEST_CHAIN.len()));
+    assert_eq!(verdict, Ok(689));
+    let linked = Linked::from_words(&table).expect("a linked table");
+    let (first, last) = (TypeId(0), TypeId(63));
+    assert!(linked.descends(last, first) && !linked.descends(first, last));
+    assert_eq!([first, last].map(|t| linked.family_size(t)), [64, 1]);
+    assert_eq!([first, last].map(|t| linked.chain_length(t)), [1, 64]);
+    assert_nearest(&table, [63, 31], Ok(Some(31)));
+    let (verdict, _) = tried(CHAIN_TOO_LONG, HOSTS, table_words(CHAIN_TOO_LONG.len()));
+    let error = verdict.expect_err("refused");
+    assert_eq!(error.numbers(), [17, 0, 0, 0, 0, 0]);
+    let words = "over 256 types on a chain, 64 in edition 2, or a cycle";
+    assert_eq!(error.to_string(), words);
+}
+
+#[test]
+fn each_edition_has_its_own_limit() {
+    let hosts = no_hosts(1);
+    let accepted = [1, 63, 64, 65, 255, 256].map(|types| (1, types));
+    for (edition, types) in accepted.into_iter().chain([(2, 1), (2, 63), (2, 64)]) {
+        let sheet = chain(edition, types);
+        let (verdict, [table, _]) = tried(&sheet, &hosts, table_words(sheet.len()));
+        let words = 49 + 10 * types as usize;
+        assert_eq!(verdict, Ok(words), "{types} in edition {edition}");
+        // The table's first word is not the sheet's edition.
+        assert_eq!(table[0], 2);
+        assert_length(&table, types - 1, Ok(types));
+    }
+    for (edition, types) in [(1, 257), (2, 65), (2, 256), (2, 257)] {
+        let sheet = chain(edition, types);
+        let (verdict, [table, work]) = tried(&sheet, &hosts, table_words(sheet.len()));
+        let too_deep = LoadErrorKind::InheritanceTooDeep;
+        assert_eq!(kind(verdict), too_deep, "{types} in edition {edition}");
+        assert!(table.iter().all(|&w| w == BEFORE) && work.iter().all(|&w| w == 0));
+        assert_eq!(count_structs(&sheet), Ok(types));
+    }
+}
+
+#[test]
+fn other_editions_are_broken() {
+    for edition in [0, 3, 4, 257, u32::MAX] {
+        for types in [1, 64, 65] {
+            let sheet = chain(edition, types);
+            let (verdict, slices) = tried(&sheet, HOSTS, table_words(sheet.len()));
+            assert_eq!(kind(verdict), LoadErrorKind::Decode, "edition {edition}");
+            assert!(slices.concat().iter().all(|&w| w == BEFORE));
+            assert_eq!(count_structs(&sheet), Err(BrokenLayout));
+        }
+    }
+    // A host list has edition 1, whatever the sheet's is.
+    let sheet = chain(2, 64);
+    for edition in [0, 2, 3, u32::MAX] {
+        for sheet in [EMPTY, &sheet] {
+            let (verdict, slices) = tried(sheet, &no_hosts(edition), table_words(sheet.len()));
+            let bad_list = LoadErrorKind::BadHostList;
+            assert_eq!(kind(verdict), bad_list, "edition {edition}");
+            assert!(slices.concat().iter().all(|&w| w == BEFORE));
+        }
+    }
+}
+
+#[test]
 fn structs_are_counted_from_the_declarations() {
-    // A type is its own parent in the last one: no rule is tried.
-    for (sheet, structs) in [(EMPTY, 0), (LIFTS, 4), (SELF_PARENT, 1)] {
+    // A rule is broken in the last two, and none is tried.
+    let sheets = [
+        (EMPTY, 0),
+        (LIFTS, 4),
+        (LONGEST_CHAIN, 64),
+        (SELF_PARENT, 1),
+        (CHAIN_TOO_LONG, 65),
+    ];
+    for (sheet, structs) in sheets {
         assert_eq!(count_structs(sheet), Ok(structs));
         assert_eq!(raw::count_structs(sheet), [0, structs]);
     }
@@ -253,7 +346,7 @@ fn a_broken_layout_is_one_to_load_too() {
 #[test]
 fn refusals_say_why_and_leave_the_table() {
     let words = table_words(LIFTS.len());
-    let (verdict, [table, work]) = tried(LIFTS, &no_hosts(), words);
+    let (verdict, [table, work]) = tried(LIFTS, &no_hosts(1), words);
     let error = verdict.expect_err("no host function");
     let (module, name) = (StrId(9), StrId(10));
     assert_eq!(

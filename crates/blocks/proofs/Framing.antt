@@ -9,13 +9,15 @@ use native.Mathlib.Numerals.{add-one}
 use lib.Dec.{eqb}
 use lib.ListN.{length, getD, take, drop, drop-of-length-le}
 use lib.Seq.{drop-cons, drop-drop, length-take-le}
-use borrow.Author.Tests.{lt-ltb, eq-eqb, ne-eqb}
+use borrow.Author.Tests.{lt-ltb, le-leb, eq-eqb, ne-eqb}
 use Rattle.lists.specs.Lists.{allOf, pieces}
+use Rattle.lists.specs.ListLaws.{both}
 use Rattle.blocks.specs.declared.Frame.the-variants.{Broken, Words}
-use Rattle.blocks.specs.Blocks.{blockBytes, checked, blockCount, blocks, allChecked, words, lengthWord, framed}
+use Rattle.blocks.specs.Blocks.{blockBytes, checked, blockCount, blocks, allChecked, words, editionWord, isEdition, lengthWord}
+use Rattle.blocks.specs.Blocks.{framed}
 use Rattle.blocks.specs.Frame.{frameOf, blockChecked, zeroFrom}
 use Rattle.blocks.specs.WordLaws.{length-words}
-use Rattle.blocks.specs.FramedLaws.{Intact, framed-intact, intact-framed}
+use Rattle.blocks.specs.FramedLaws.{Intact, edition-range, framed-intact, intact-framed}
 
 -- ── every block ──
 
@@ -88,60 +90,78 @@ pub ruleset zeroing = (zeros-start, zeros-next, zeros-stop, zeros-end)
 
 -- ── the frame ──
 
-module _ (b : List ℕ) where
-  broken-if : (Intact b (blockCount b) → ⊥) → Broken ≡ frameOf (framed b)
+module _ (newest : ℕ) (b : List ℕ) where
+  broken-if : (Intact newest b (blockCount b) → ⊥) → Broken ≡ frameOf (framed newest b)
   unfolding frameOf
-  broken-if f = go (framed b) refl
+  broken-if f = go (framed newest b) refl
     where
-      go : (o : Option (List ℕ)) → framed b ≡ o → Broken ≡ frameOf o
+      go : (o : Option (List ℕ)) → framed newest b ≡ o → Broken ≡ frameOf o
       go none e = refl
-      go (some ws) e = absurd (f (framed-intact b ws e .0))
+      go (some ws) e = absurd (f (framed-intact newest b ws e .0))
 
-  pub frame-ragged : (length b % 512 ≡ 0 → ⊥) → Broken ≡ frameOf (framed b)
+  pub frame-ragged : (length b % 512 ≡ 0 → ⊥) → Broken ≡ frameOf (framed newest b)
   frame-ragged h = broken-if λ i. h (omega (arith, i .length-is))
 
-  pub frame-empty : length b / 512 < 1 → Broken ≡ frameOf (framed b)
+  pub frame-empty : length b / 512 < 1 → Broken ≡ frameOf (framed newest b)
   unfolding blockCount
   frame-empty h = broken-if λ i. omega (arith, i .some-block)
 
-  pub frame-long : 4096 < length b / 512 → Broken ≡ frameOf (framed b)
+  pub frame-long : 4096 < length b / 512 → Broken ≡ frameOf (framed newest b)
   unfolding blockCount
   frame-long h = broken-if λ i. omega (arith, i .few-blocks)
 
-  pub frame-unchecked : {r : Bool} → r ≡ false → r ≡ allChecked 0 (blocks b) → Broken ≡ frameOf (framed b)
+  pub frame-unchecked : {r : Bool} → r ≡ false → r ≡ allChecked 0 (blocks b) → Broken ≡ frameOf (framed newest b)
   unfolding blocks
   frame-unchecked f e = broken-if λ i. let t = i .all-checked in let z : _≡_ {A = ℕ} 0 1 = cc in omega arith
 
-  pub frame-edition : {w : ℕ} → (w ≡ 1 → ⊥) → w ≡ getD (words b) 0 0 → Broken ≡ frameOf (framed b)
-  frame-edition h e = broken-if λ i. h (e ∙ i .edition-is)
+  pub frame-early-edition : {w : ℕ} → w < 1 → w ≡ getD (words b) 0 0 → Broken ≡ frameOf (framed newest b)
+  unfolding editionWord
+  frame-early-edition h e = broken-if λ i. omega (arith, edition-range newest (getD (words b) 0 0) (i .edition-known) .0)
 
-  pub frame-early : {n : ℕ} → n ≤ 127 * (length b / 512 - 1) → n ≡ getD (words b) 1 0 → Broken ≡ frameOf (framed b)
+  pub frame-late-edition : {w : ℕ} → newest < w → w ≡ getD (words b) 0 0 → Broken ≡ frameOf (framed newest b)
+  unfolding editionWord
+  frame-late-edition h e = broken-if λ i. omega (arith, edition-range newest (getD (words b) 0 0) (i .edition-known) .1)
+
+  pub frame-early : {n : ℕ} → n ≤ 127 * (length b / 512 - 1) → n ≡ getD (words b) 1 0 → Broken ≡ frameOf (framed newest b)
   unfolding blockCount lengthWord
   frame-early h e = broken-if λ i. omega (arith, i .past-block)
 
-  pub frame-late : {n : ℕ} → 127 * (length b / 512) < n → n ≡ getD (words b) 1 0 → Broken ≡ frameOf (framed b)
+  pub frame-late : {n : ℕ} → 127 * (length b / 512) < n → n ≡ getD (words b) 1 0 → Broken ≡ frameOf (framed newest b)
   unfolding blockCount lengthWord
   frame-late h e = broken-if λ i. omega (arith, i .in-block)
 
-  pub frame-filled : {n : ℕ} {z : Bool} → z ≡ false → z ≡ zeroFrom (words b) n → n ≡ getD (words b) 1 0 → Broken ≡ frameOf (framed b)
+  pub frame-filled : {n : ℕ} {z : Bool} → z ≡ false → z ≡ zeroFrom (words b) n → n ≡ getD (words b) 1 0 → Broken ≡ frameOf (framed newest b)
   unfolding zeroFrom lengthWord
   frame-filled {n} f e k = broken-if λ i. let t : zeroFrom (words b) n ≡ true = ap (λ m. allOf (eqb 0) (drop m (words b))) k ∙ i .zero-after in let z : _≡_ {A = ℕ} 0 1 = cc in omega arith
 
   pub frame-intact : {n w : ℕ} {r z : Bool} → length b % 512 ≡ 0 → 1 ≤ length b / 512 → length b / 512 ≤ 4096 → r ≡ true → r ≡ allChecked 0 (blocks b)
-      → w ≡ 1 → w ≡ getD (words b) 0 0 → n ≡ getD (words b) 1 0 → 127 * (length b / 512 - 1) < n → n ≤ 127 * (length b / 512) → z ≡ true → z ≡ zeroFrom (words b) n
-      → Words n ≡ frameOf (framed b)
-  unfolding frameOf blocks blockCount lengthWord zeroFrom
-  frame-intact {n} h₁ h₂ h₃ t₄ e₄ t₅ e₅ e h₆ h₇ t₈ e₈ =
-      let i : Intact b (length b / 512) = record {
+      → 1 ≤ w → w ≤ newest → w ≡ getD (words b) 0 0 → n ≡ getD (words b) 1 0 → 127 * (length b / 512 - 1) < n →
+      n ≤ 127 * (length b / 512) → z ≡ true → z ≡ zeroFrom (words b) n
+      → Words n ≡ frameOf (framed newest b)
+  unfolding frameOf blocks blockCount lengthWord zeroFrom isEdition editionWord
+  frame-intact {n} h₁ h₂ h₃ t₄ e₄ t₅ s₅ e₅ e h₆ h₇ t₈ e₈ =
+      let i : Intact newest b (length b / 512) = record {
         length-is = omega arith;
         some-block = h₂;
         few-blocks = h₃;
         all-checked = sym e₄ ∙ t₄;
-        edition-is = sym e₅ ∙ t₅;
+        edition-known = both (le-leb 1 (getD (words b) 0 0) (omega arith)) (le-leb (getD (words b) 0 0) newest (omega arith));
         past-block = omega arith;
         in-block = omega arith;
         zero-after = ap (λ m. allOf (eqb 0) (drop m (words b))) (sym e) ∙ sym e₈ ∙ t₈;
       } in
-      sym (ap frameOf (intact-framed b i) ∙ ap Words (length-take-le (getD (words b) 1 0) (words b) (omega (arith, length-words b)) ∙ sym e))
+      sym (ap frameOf (intact-framed newest b i)
+      ∙ ap Words (length-take-le (getD (words b) 1 0) (words b) (omega (arith, length-words b)) ∙ sym e))
 
-pub ruleset framing = (frame-ragged, frame-empty, frame-long, frame-unchecked, frame-edition, frame-early, frame-late, frame-filled, frame-intact)
+pub ruleset framing = (
+  frame-ragged,
+  frame-empty,
+  frame-long,
+  frame-unchecked,
+  frame-early-edition,
+  frame-late-edition,
+  frame-early,
+  frame-late,
+  frame-filled,
+  frame-intact,
+)

@@ -11,7 +11,9 @@ use lib.Seq.{take-nil, length-take-le}
 use borrow.Author.Tests.{eqb-true, leb-true, ltb-true, eq-eqb, le-leb, lt-ltb}
 use Rattle.lists.specs.Lists.{allOf, concatMap, concatMapFrom, pieces}
 use Rattle.lists.specs.ListLaws.{and-first, and-second, cond-inv, all-from, all-take, all-drop, all-append, length-pieces, drop-take, pieces-concatMap}
-use Rattle.blocks.specs.Blocks.{blockBytes, blockWords, mostBlocks, edition, checkWord, checked, blockCount, blocks, allChecked, intactBlocks, words, lengthWord, endsInLast, intactWords, framed, bytesOf, blocksFor, padded, blockOf, written, titled}
+use Rattle.blocks.specs.Blocks.{blockBytes, blockWords, mostBlocks, editionWord, isEdition, checkWord, checked, blockCount}
+use Rattle.blocks.specs.Blocks.{blocks, allChecked, intactBlocks, words, lengthWord, endsInLast, intactWords, framed, bytesOf}
+use Rattle.blocks.specs.Blocks.{blocksFor, padded, blockOf, written, titled}
 use Rattle.blocks.specs.ByteLaws.{isByte, isWord, bytesOf-bytes, zeros-drop}
 use Rattle.blocks.specs.WordLaws.{wordsIn, length-wordsIn, length-words, byteOf, word-bytes-at}
 use Rattle.blocks.specs.WrittenLaws.{take-replicate, filled, blockOf-words}
@@ -66,28 +68,34 @@ reblocked (suc n) k bytes l h c =
     (reblocked n (suc k) rest (omega (arith, length-drop blockBytes bytes)) (all-drop isByte blockBytes bytes h) (and-second (checked k block) t c))
     ∙ take-append-drop blockBytes bytes
 
+pub edition-range : (newest e : ℕ) → isEdition newest e ≡ true → (1 ≤ e) × (e ≤ newest)
+unfolding isEdition
+edition-range newest e h =
+    (leb-true 1 e (and-first (leb 1 e) (leb e newest) h), leb-true e newest (and-second (leb 1 e) (leb e newest) h))
+
 -- the tests of framed bytes, one by one
-pub record Intact (bytes : List ℕ) (n : ℕ) : Type 0 where
+pub record Intact (newest : ℕ) (bytes : List ℕ) (n : ℕ) : Type 0 where
   pub length-is : length bytes ≡ blockBytes * n
   pub some-block : 1 ≤ n
   pub few-blocks : n ≤ mostBlocks
   pub all-checked : allChecked 0 (pieces blockBytes n bytes) ≡ true
-  pub edition-is : getD (words bytes) 0 0 ≡ edition
+  pub edition-known : isEdition newest (editionWord (words bytes)) ≡ true
   pub past-block : blockWords * (n - 1) < lengthWord (words bytes)
   pub in-block : lengthWord (words bytes) ≤ blockWords * n
   pub zero-after : allOf (eqb 0) (drop (lengthWord (words bytes)) (words bytes)) ≡ true
 
-pub framed-intact : (bytes ws : List ℕ) → framed bytes ≡ some ws → Intact bytes (blockCount bytes) × (ws ≡ take (lengthWord (words bytes)) (words bytes))
+pub framed-intact : (newest : ℕ) (bytes ws : List ℕ) → framed newest bytes ≡ some ws →
+    Intact newest bytes (blockCount bytes) × (ws ≡ take (lengthWord (words bytes)) (words bytes))
 unfolding framed intactBlocks intactWords endsInLast blocks
-framed-intact bytes ws e =
-    cond-inv (intactBlocks bytes && intactWords n w) e (λ x. let z : _≡_ {A = ℕ} 0 1 = cc in omega arith) λ t e.
-    let ib = and-first (intactBlocks bytes) (intactWords n w) t in
-    let iw = and-second (intactBlocks bytes) (intactWords n w) t in
+framed-intact newest bytes ws e =
+    cond-inv (intactBlocks bytes && intactWords newest n w) e (λ x. let z : _≡_ {A = ℕ} 0 1 = cc in omega arith) λ t e.
+    let ib = and-first (intactBlocks bytes) (intactWords newest n w) t in
+    let iw = and-second (intactBlocks bytes) (intactWords newest n w) t in
     let b₁ = eqb (length bytes % blockBytes) 0 in
     let b₂ = leb 1 n in
     let b₃ = leb n mostBlocks in
     let b₄ = allChecked 0 (pieces blockBytes n bytes) in
-    let c₁ = eqb (getD w 0 0) edition in
+    let c₁ = isEdition newest (editionWord w) in
     let c₂ = ltb (blockWords * (n - 1)) m && leb m (blockWords * n) in
     let c₃ = allOf (eqb 0) (drop m w) in
     let i₃ = and-first (b₁ && b₂ && b₃) b₄ ib in
@@ -99,7 +107,7 @@ framed-intact bytes ws e =
         some-block = leb-true 1 n (and-second b₁ b₂ i₂);
         few-blocks = leb-true n mostBlocks (and-second (b₁ && b₂) b₃ i₃);
         all-checked = and-second (b₁ && b₂ && b₃) b₄ ib;
-        edition-is = eqb-true (getD w 0 0) edition (and-first c₁ c₂ j);
+        edition-known = and-first c₁ c₂ j;
         past-block = ltb-true (blockWords * (n - 1)) m (and-first (ltb (blockWords * (n - 1)) m) (leb m (blockWords * n)) l);
         in-block = leb-true m (blockWords * n) (and-second (ltb (blockWords * (n - 1)) m) (leb m (blockWords * n)) l);
         zero-after = and-second (c₁ && c₂) c₃ iw;
@@ -120,28 +128,30 @@ framed-intact bytes ws e =
     whole-blocks e = unfold blockCount in omega arith
 
 -- framed words: their title, their width, and the bytes that they are written as
-pub record Framed (bytes ws : List ℕ) : Type 0 where
+pub record Framed (newest : ℕ) (bytes ws : List ℕ) : Type 0 where
   pub bytes-are : bytes ≡ written ws
-  pub titled-as : ws ≡ titled (drop 2 ws)
+  pub titled-as : ws ≡ titled (editionWord ws) (drop 2 ws)
+  pub edition-known : isEdition newest (editionWord ws) ≡ true
   pub are-words : allOf isWord ws ≡ true
   pub few : blocksFor (length ws) ≤ mostBlocks
   pub length-is : length ws ≡ lengthWord (words bytes)
 
-title-of : (w : List ℕ) (n : ℕ) → getD w 0 0 ≡ edition → getD w 1 0 ≡ n → n ≤ length w → 1 ≤ n → allOf (eqb 0) (drop n w) ≡ true → take n w ≡ titled (drop 2 (take n w))
-unfolding titled
-title-of [] n a b l h z = absurd (omega arith)
-title-of (x ∷ []) n a b l h z = absurd (omega arith)
-title-of (x ∷ y ∷ w) zero a b l h z = absurd (omega arith)
-title-of (x ∷ y ∷ w) (suc zero) a b l h z =
+title-of : (w : List ℕ) (n : ℕ) → getD w 1 0 ≡ n → n ≤ length w → 1 ≤ n → allOf (eqb 0) (drop n w) ≡ true →
+    (take n w ≡ titled (editionWord (take n w)) (drop 2 (take n w))) × (editionWord w ≡ editionWord (take n w))
+unfolding titled editionWord
+title-of [] n b l h z = absurd (omega arith)
+title-of (x ∷ []) n b l h z = absurd (omega arith)
+title-of (x ∷ y ∷ w) zero b l h z = absurd (omega arith)
+title-of (x ∷ y ∷ w) (suc zero) b l h z =
     let e : 0 ≡ y = eqb-true 0 y (and-first (eqb 0 y) (allOf (eqb 0) w) z) in absurd (omega arith)
-title-of (x ∷ y ∷ w) (suc (suc n)) a b l h z =
+title-of (x ∷ y ∷ w) (suc (suc n)) b l h z =
     let e : y ≡ length (take n w) + 2 = omega (arith, length-take n w) in
-    ap₂ (λ u v. u ∷ v ∷ take n w) a e
+    (ap (λ v. x ∷ v ∷ take n w) e, refl)
 
-pub framed-bytes : (bytes ws : List ℕ) → allOf isByte bytes ≡ true → framed bytes ≡ some ws → Framed bytes ws
+pub framed-bytes : (newest : ℕ) (bytes ws : List ℕ) → allOf isByte bytes ≡ true → framed newest bytes ≡ some ws → Framed newest bytes ws
 unfolding written blocksFor
-framed-bytes bytes ws h e =
-    let i = framed-intact bytes ws e in
+framed-bytes newest bytes ws h e =
+    let i = framed-intact newest bytes ws e in
     let n = blockCount bytes in
     let w = words bytes in
     let m = lengthWord w in
@@ -149,6 +159,7 @@ framed-bytes bytes ws h e =
     let l : length (take m w) ≡ m = length-take-le m w (omega (arith, length-words bytes, t .in-block)) in
     let lw : length ws ≡ m = ap length (i .1) ∙ l in
     let c : blocksFor (length ws) ≡ n = omega (arith, t .past-block, t .in-block, t .some-block, lw) in
+    let a = title-of w m (length-word w) (omega (arith, length-words bytes, t .in-block)) (omega (arith, t .past-block)) (t .zero-after) in
     record {
       bytes-are =
           sym
@@ -156,7 +167,8 @@ framed-bytes bytes ws h e =
           ∙ blocks-cut 0 n m w (t .zero-after)
           ∙ ap (concatMapFrom 0 blockOf) (pieces-words bytes)
           ∙ reblocked n 0 bytes (t .length-is) h (t .all-checked));
-      titled-as = rw (i .1) (title-of w m (t .edition-is) (length-word w) (omega (arith, length-words bytes, t .in-block)) (omega (arith, t .past-block)) (t .zero-after));
+      titled-as = rw (i .1) (a .0);
+      edition-known = rw (i .1) (sym (ap (isEdition newest) (a .1)) ∙ t .edition-known);
       are-words = rw (i .1) (all-take isWord m w (words-small bytes h));
       few = omega (arith, c, t .few-blocks);
       length-is = lw;
@@ -172,8 +184,9 @@ framed-bytes bytes ws h e =
         ∙ pieces-concatMap wordsIn blockWords length-wordsIn (pieces blockBytes (blockCount bytes) bytes)
 
 -- two sheets of the same words are the same
-pub framed-same : (s t ws : List ℕ) → allOf isByte s ≡ true → allOf isByte t ≡ true → framed s ≡ some ws → framed t ≡ some ws → s ≡ t
-framed-same s t ws h k d e = framed-bytes s ws h d .bytes-are ∙ sym (framed-bytes t ws k e .bytes-are)
+pub framed-same : (newest : ℕ) (s t ws : List ℕ) → allOf isByte s ≡ true → allOf isByte t ≡ true → framed newest s ≡ some ws →
+    framed newest t ≡ some ws → s ≡ t
+framed-same newest s t ws h k d e = framed-bytes newest s ws h d .bytes-are ∙ sym (framed-bytes newest t ws k e .bytes-are)
 
 -- what is written is bytes
 pub written-bytes : (ws : List ℕ) → allOf isByte (written ws) ≡ true
@@ -194,9 +207,10 @@ written-bytes ws = go 0 (pieces blockWords (blocksFor (length ws)) ws)
     go k (p ∷ ps) = all-append isByte (blockOf k p) (concatMapFrom (suc k) blockOf ps) (block k p) (go (suc k) ps)
 
 -- the tests passed, one by one
-pub intact-framed : (bytes : List ℕ) → Intact bytes (blockCount bytes) → framed bytes ≡ some (take (lengthWord (words bytes)) (words bytes))
+pub intact-framed : (newest : ℕ) (bytes : List ℕ) → Intact newest bytes (blockCount bytes) →
+    framed newest bytes ≡ some (take (lengthWord (words bytes)) (words bytes))
 unfolding framed intactBlocks intactWords endsInLast blocks
-intact-framed bytes i =
+intact-framed newest bytes i =
     let n = blockCount bytes in
     let m = lengthWord (words bytes) in
     rw (
@@ -204,17 +218,18 @@ intact-framed bytes i =
       le-leb 1 n (i .some-block),
       le-leb n mostBlocks (i .few-blocks),
       i .all-checked,
-      eq-eqb (getD (words bytes) 0 0) edition (i .edition-is),
+      i .edition-known,
       lt-ltb (blockWords * (n - 1)) m (i .past-block),
       le-leb m (blockWords * n) (i .in-block),
       i .zero-after,
     )
 
 -- a test that fails
-pub broken-blocks : (bytes : List ℕ) → intactBlocks bytes ≡ false → framed bytes ≡ none
+pub broken-blocks : (newest : ℕ) (bytes : List ℕ) → intactBlocks bytes ≡ false → framed newest bytes ≡ none
 unfolding framed
-broken-blocks bytes h = rw h
+broken-blocks newest bytes h = rw h
 
-pub broken-words : (bytes : List ℕ) → intactWords (blockCount bytes) (words bytes) ≡ false → framed bytes ≡ none
+pub broken-words : (newest : ℕ) (bytes : List ℕ) → intactWords newest (blockCount bytes) (words bytes) ≡ false → framed newest bytes ≡ none
 unfolding framed
-broken-words bytes h = rw h (ap (λ b. cond b (some (take (lengthWord (words bytes)) (words bytes))) none) (and-false (intactBlocks bytes)))
+broken-words newest bytes h =
+    rw h (ap (λ b. cond b (some (take (lengthWord (words bytes)) (words bytes))) none) (and-false (intactBlocks bytes)))

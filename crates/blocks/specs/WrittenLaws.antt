@@ -11,7 +11,9 @@ use lib.Seq.{take-at, drop-at, take-all, length-take-le, take-append-add}
 use borrow.Author.Tests.{eqb-true, eq-eqb, le-leb, lt-ltb}
 use Rattle.lists.specs.Lists.{allOf, concatMap, mapFrom, concatMapFrom, pieces}
 use Rattle.lists.specs.ListLaws.{both, all-take, all-drop, all-append, all-replicate, length-concatMap, length-concatMapFrom, length-pieces, pieces-join, pieces-take, pieces-concatMapFrom}
-use Rattle.blocks.specs.Blocks.{blockBytes, blockWords, checkedBytes, mostBlocks, edition, number, checkWord, checked, blockCount, blocks, allChecked, intactBlocks, words, lengthWord, endsInLast, intactWords, framed, bytesOf, blocksFor, padded, blockOf, written, titled}
+use Rattle.blocks.specs.Blocks.{blockBytes, blockWords, checkedBytes, mostBlocks, editionWord, isEdition, number, checkWord}
+use Rattle.blocks.specs.Blocks.{checked, blockCount, blocks, allChecked, intactBlocks, words, lengthWord, endsInLast, intactWords}
+use Rattle.blocks.specs.Blocks.{framed, bytesOf, blocksFor, padded, blockOf, written, titled}
 use Rattle.blocks.specs.ByteLaws.{isByte, isWord, length-bytesOf, number-bytesOf, bytesOf-number, bytes-of-words, words-of-bytes}
 use Rattle.blocks.specs.WordLaws.{wordsIn, length-wordsIn}
 
@@ -126,9 +128,9 @@ words-written ws h =
 
 -- ── what was written is framed ──
 
-pub titled-length : (body : List ℕ) → length (titled body) ≡ length body + 2
+pub titled-length : (e : ℕ) (body : List ℕ) → length (titled e body) ≡ length body + 2
 unfolding titled
-titled-length body = omega arith
+titled-length e body = omega arith
 
 written-intact : (ws : List ℕ) → 1 ≤ length ws → blocksFor (length ws) ≤ mostBlocks → intactBlocks (written ws) ≡ true
 unfolding intactBlocks blocksFor
@@ -141,31 +143,42 @@ written-intact ws h k =
     (le-leb (blockCount (written ws)) mostBlocks (omega arith)))
     (ap (allChecked 0) (blocks-written ws) ∙ all-blockOf 0 (pieces blockWords (blocksFor (length ws)) ws))
 
-titled-intact : (body : List ℕ) (n : ℕ) → blocksFor (length (titled body)) ≡ n → (zs : List ℕ) → allOf (eqb 0) zs ≡ true → intactWords n (titled body ++ zs) ≡ true
-unfolding intactWords lengthWord endsInLast titled blocksFor
-titled-intact body n e zs z =
+titled-intact : (newest e : ℕ) → isEdition newest e ≡ true → (body : List ℕ) (n : ℕ) → blocksFor (length (titled e body)) ≡ n →
+    (zs : List ℕ) → allOf (eqb 0) zs ≡ true →
+    intactWords newest n (titled e body ++ zs) ≡ true
+unfolding intactWords editionWord lengthWord endsInLast titled blocksFor
+titled-intact newest e k body n q zs z =
     both
-    (both refl (both (lt-ltb (blockWords * (n - 1)) (length body + 2) (omega arith)) (le-leb (length body + 2) (blockWords * n) (omega arith))))
-    (ap (allOf (eqb 0)) (drop-at (edition ∷ (length body + 2) ∷ body) zs (length body + 2) (omega arith)) ∙ z)
+    (both k (both (lt-ltb (blockWords * (n - 1)) (length body + 2) (omega arith))
+    (le-leb (length body + 2) (blockWords * n) (omega arith))))
+    (ap (allOf (eqb 0)) (drop-at (e ∷ (length body + 2) ∷ body) zs (length body + 2) (omega arith)) ∙ z)
 
-title-length : (body zs : List ℕ) → lengthWord (titled body ++ zs) ≡ length (titled body)
+title-length : (e : ℕ) (body zs : List ℕ) → lengthWord (titled e body ++ zs) ≡ length (titled e body)
 unfolding titled lengthWord
-title-length body zs = omega arith
+title-length e body zs = omega arith
 
 -- N of what was written
-pub lengthWord-written : (body : List ℕ) → allOf isWord (titled body) ≡ true → lengthWord (words (written (titled body))) ≡ length (titled body)
-lengthWord-written body h =
-    let ws = titled body in
-    ap lengthWord (words-written ws h) ∙ title-length body (replicate (blockWords * blocksFor (length ws) - length ws) 0)
+pub lengthWord-written : (e : ℕ) (body : List ℕ) → allOf isWord (titled e body) ≡ true →
+    lengthWord (words (written (titled e body))) ≡ length (titled e body)
+lengthWord-written e body h =
+    let ws = titled e body in
+    ap lengthWord (words-written ws h) ∙ title-length e body (replicate (blockWords * blocksFor (length ws) - length ws) 0)
 
 -- the words that were written, read back
-pub framed-written : (body : List ℕ) → allOf isWord (titled body) ≡ true → blocksFor (length (titled body)) ≤ mostBlocks → framed (written (titled body)) ≡ some (titled body)
+pub framed-written : (newest e : ℕ) → isEdition newest e ≡ true → (body : List ℕ) → allOf isWord (titled e body) ≡ true →
+    blocksFor (length (titled e body)) ≤ mostBlocks →
+    framed newest (written (titled e body)) ≡ some (titled e body)
 unfolding framed
-framed-written body h k =
-    let ws = titled body in
+framed-written newest e q body h k =
+    let ws = titled e body in
     let n = blocksFor (length ws) in
     let zs : List ℕ = replicate (blockWords * n - length ws) 0 in
     let w : words (written ws) ≡ ws ++ zs = words-written ws h in
     let c : blockCount (written ws) ≡ n = blockCount-is (written ws) n (length-written ws) in
-    rw (written-intact ws (omega (arith, titled-length body)) k, c, w, titled-intact body n refl zs (all-replicate (eqb 0) (blockWords * n - length ws) 0 refl))
-    (ap some (take-at ws zs (lengthWord (ws ++ zs)) (sym (title-length body zs))))
+    rw (
+      written-intact ws (omega (arith, titled-length e body)) k,
+      c,
+      w,
+      titled-intact newest e q body n refl zs (all-replicate (eqb 0) (blockWords * n - length ws) 0 refl),
+    )
+    (ap some (take-at ws zs (lengthWord (ws ++ zs)) (sym (title-length e body zs))))

@@ -14,9 +14,8 @@ use Rattle.error.specs.Told.{numbers-tell}
 use Rattle.sheet.specs.Module.{Module}
 use Rattle.sheet.specs.Decode.{decode}
 use Rattle.host.specs.Host.{HostFn, decodeHosts}
-use Rattle.parents.specs.Parents.{mostOnChain}
-use Rattle.table.specs.Table.{tableWords}
-use Rattle.load.specs.Load.{moduleFaults, longEnough, answer, load, tableAfter, workAfter}
+use Rattle.table.specs.Table.{tableOf}
+use Rattle.load.specs.Load.{faultsOf, longEnough, answer, load, tableAfter, workAfter}
 use Rattle.load.specs.Kinds.{kindNumber}
 use Rattle.load.specs.KindLaws.{early, Links, opens, first-accepted, broken-sheet, broken-hosts, short-slice, refused-first, accepted}
 use Rattle.load.specs.SliceLaws.{beforeRules, untouched-table, table-written, work-untouched, work-zero}
@@ -51,8 +50,8 @@ family-asked m table f = record {
 
 -- no rule is broken, and the words are the linked table and a rest
 pub record Fronted (m : Module) (hs : List HostFn) (l : ℕ) (words : List ℕ) : Type 0 where
-  pub faultless : moduleFaults mostOnChain hs m ≡ []
-  pub fronts : words ≡ tableWords mostOnChain hs m ++ drop l words
+  pub faultless : faultsOf hs m ≡ []
+  pub fronts : words ≡ tableOf hs m ++ drop l words
 
 module _ (sheet hosts table work : List ℕ) (l : ℕ) (left workLeft : List ℕ)
     (c : Loads sheet hosts table work (Accepted l) left workLeft) where
@@ -68,13 +67,13 @@ module _ (sheet hosts table work : List ℕ) (l : ℕ) (left workLeft : List ℕ
       let g : links .hostList ≡ hs = let e : some (links .hostList) ≡ some hs = sym (links .lists) ∙ o in cc in
       let w = table-written sheet hosts table work l m hs (sym (c .answers)) d o in
       record {
-        faultless = sym (ap₂ (moduleFaults mostOnChain) g a) ∙ links .kept;
+        faultless = sym (ap₂ faultsOf g a) ∙ links .kept;
         fronts = sym (take-append-drop l words) ∙ ap (λ (ws : List ℕ). ws ++ drop l words) (b ∙ ap (take l) (c .leaves) ∙ w .front);
       }
 
   -- what holds of the linked table of a module without faults, and any rest, holds of them
   pub of-left : (P : List ℕ → Type 0) (m : Module) → decode sheet ≡ some m → (words : List ℕ) → Begins l left words →
-      ((hs : List HostFn) → moduleFaults mostOnChain hs m ≡ [] → (rest : List ℕ) → P (tableWords mostOnChain hs m ++ rest)) → P words
+      ((hs : List HostFn) → faultsOf hs m ≡ [] → (rest : List ℕ) → P (tableOf hs m ++ rest)) → P words
   of-left P m d words b holds =
       let f = fronted m (links .hostList) d (links .lists) words b in
       subst P (sym (f .fronts)) (holds (links .hostList) (f .faultless) (drop l words))
@@ -83,7 +82,7 @@ pub family-right : FamilyRight
 unfolding FamilyRight
 family-right sheet hosts table work l left workLeft m d c words b =
     of-left sheet hosts table work l left workLeft c (FamilyAsked m) m d words b λ hs f rest.
-    family-asked m (tableWords mostOnChain hs m ++ rest) (family-front hs m f (types-few sheet m d) rest)
+    family-asked m (tableOf hs m ++ rest) (family-front hs m f (types-few sheet m d) rest)
 
 -- ── demand 3 ──
 
@@ -151,8 +150,9 @@ numbering-free r hosts first second w table work x left workLeft c n tableAlso w
 -- ── demand 1 ──
 
 -- what both decode to, with room, is judged by the rules
-by-rules : (sheet hosts : List ℕ) (table work : ℕ) (m : Module) (hs : List HostFn) → decode sheet ≡ some m → decodeHosts hosts ≡ some hs →
-    longEnough sheet table work ≡ true → load sheet hosts table work ≡ first (length (tableWords mostOnChain hs m)) (moduleFaults mostOnChain hs m)
+pub by-rules : (sheet hosts : List ℕ) (table work : ℕ) (m : Module) (hs : List HostFn) → decode sheet ≡ some m →
+    decodeHosts hosts ≡ some hs →
+    longEnough sheet table work ≡ true → load sheet hosts table work ≡ first (length (tableOf hs m)) (faultsOf hs m)
 unfolding load answer
 by-rules sheet hosts table work m hs d o t = ap answer (opens sheet hosts table work m hs d o t)
 
@@ -162,7 +162,7 @@ unfolding Exactly NumbersTell
 exactly r a six P n f = (f, (λ e. f .0 (numbers-tell r a (e ∙ sym n)), λ p. ap numbers (f .1 p) ∙ n))
 
 -- the answer of the definition
-verdict : (sheet hosts : List ℕ) (table work : ℕ) → Verdict sheet hosts table work (load sheet hosts table work)
+pub verdict : (sheet hosts : List ℕ) (table work : ℕ) → Verdict sheet hosts table work (load sheet hosts table work)
 unfolding numbers kindNumbers
 verdict sheet hosts table work =
     let at = by-rules sheet hosts table work in
@@ -178,9 +178,9 @@ verdict sheet hosts table work =
         λ n. (short-slice sheet hosts table work) .1 (record { value = m; given = d }, record { value = hs; given = o }, n),
       );
       accepted = λ m hs l d o t.
-          let n = length (tableWords mostOnChain hs m) in
-          exactly r (Accepted l) (0 ∷ 0 ∷ l ∷ 0 ∷ 0 ∷ 0 ∷ []) ((moduleFaults mostOnChain hs m ≡ []) × (l ≡ n)) refl (
-            λ q. first-accepted n l (moduleFaults mostOnChain hs m) (sym (at m hs d o t) ∙ q),
+          let n = length (tableOf hs m) in
+          exactly r (Accepted l) (0 ∷ 0 ∷ l ∷ 0 ∷ 0 ∷ 0 ∷ []) ((faultsOf hs m ≡ []) × (l ≡ n)) refl (
+            λ q. first-accepted n l (faultsOf hs m) (sym (at m hs d o t) ∙ q),
             λ k. at m hs d o t ∙ ap (first n) (k .0) ∙ unfold first in ap Accepted (sym (k .1)),
           );
       refused = λ m hs e es d o t q.

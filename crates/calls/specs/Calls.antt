@@ -16,13 +16,12 @@ use Rattle.error.specs.Answer.{kindNumbers, numbers, refusal, isAccepted, inMod
 use Rattle.sheet.specs.Module.{Module}
 use Rattle.sheet.specs.Decode.{decode}
 use Rattle.host.specs.Host.{HostFn, decodeHosts}
-use Rattle.parents.specs.Parents.{mostOnChain}
 use Rattle.spans.specs.Spans.{Descendant}
-use Rattle.table.specs.Table.{tableWords}
 use Rattle.descends.specs.Descends.{descends}
 use Rattle.descends.specs.declared.ChainLength.{ChainLength}
 use Rattle.descends.specs.Lengths.{chainLengthIn}
-use Rattle.load.specs.Load.{moduleFaults, longEnough, load, tableAfter, workAfter}
+use Rattle.table.specs.Table.{tableOf}
+use Rattle.load.specs.Load.{faultsOf, longEnough, load, tableAfter, workAfter}
 use Rattle.law_linked.specs.Find.{hooksIn, canonIn, catchIn}
 use Rattle.renumber.specs.Renumber.{image, renumber, RenumberedSheet}
 
@@ -72,10 +71,10 @@ pub record Verdict (sheet hosts : List ℕ) (table work : ℕ) (r : Loaded) : Ty
   -- accepted exactly where no rule is broken, and with so many words
   pub accepted : (m : Module) (hs : List HostFn) (l : ℕ) → decode sheet ≡ some m → decodeHosts hosts ≡ some hs → longEnough sheet table work ≡ true →
       Exactly r (Accepted l) (0 ∷ 0 ∷ l ∷ 0 ∷ 0 ∷ 0 ∷ [])
-      ((moduleFaults mostOnChain hs m ≡ []) × (l ≡ length (tableWords mostOnChain hs m)))
+      ((faultsOf hs m ≡ []) × (l ≡ length (tableOf hs m)))
   -- else refused for the first that is: its kind in four numbers, then its place
   pub refused : (m : Module) (hs : List HostFn) (e : LoadError) (es : List LoadError) → decode sheet ≡ some m → decodeHosts hosts ≡ some hs →
-      longEnough sheet table work ≡ true → moduleFaults mostOnChain hs m ≡ e ∷ es →
+      longEnough sheet table work ≡ true → faultsOf hs m ≡ e ∷ es →
       (r ≡ Refused e) × (numbers r ≡ kindNumbers (e .kind) ++ (e .func ∷ e .pc ∷ []))
 
 -- the slices after the call
@@ -83,7 +82,8 @@ pub record Slices (sheet hosts table work : List ℕ) (r : Loaded) (left workLef
   -- a refusal leaves the table as it was
   pub kept : (e : LoadError) → r ≡ Refused e → left ≡ table
   -- acceptance with l words writes the linked table
-  pub linked : (l : ℕ) (m : Module) (hs : List HostFn) → r ≡ Accepted l → decode sheet ≡ some m → decodeHosts hosts ≡ some hs → take l left ≡ tableWords mostOnChain hs m
+  pub linked : (l : ℕ) (m : Module) (hs : List HostFn) → r ≡ Accepted l → decode sheet ≡ some m → decodeHosts hosts ≡ some hs →
+      take l left ≡ tableOf hs m
   -- and changes the first l words only
   pub rest : (l : ℕ) → r ≡ Accepted l → drop l left ≡ drop l table
   -- 1, 23 and 24 leave work as it was

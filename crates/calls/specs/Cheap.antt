@@ -5,6 +5,7 @@ use Prim.Native.Nat.{ℕ}
 use native.Mathlib.Omega.{arith}
 use lib.ListN.{length, replicate}
 use Rattle.error.specs.Answer.{numbers}
+use Rattle.sheet.specs.Module.{noModule}
 use Rattle.sheet.specs.Encode.{sheetOf}
 use Rattle.host.specs.Host.{hostsOf}
 use Rattle.descends.specs.Descends.{descends}
@@ -14,8 +15,7 @@ use Rattle.calls.specs.Calls.{Lent, Loader, NoConstant, NoIdle}
 
 -- an empty sheet and an empty host list
 abbrev emptySheet : List ℕ
-emptySheet =
-    sheetOf (record { strings = []; types = []; consts = []; imports = []; globals = []; funcs = []; hooks = []; start+ = 0; exports = [] })
+emptySheet = sheetOf noModule
 
 abbrev slice : List ℕ
 slice = replicate 160 7

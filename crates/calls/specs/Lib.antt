@@ -1,3 +1,5 @@
 pub mod Calls
 pub mod CallLaws
+pub mod EditionCalls
+pub mod EditionCallLaws
 pub mod Cheap

@@ -9,15 +9,17 @@ use lib.Dec.{T, eqb}
 use lib.ListN.{length}
 use Rattle.lists.specs.Lists.{keep, from, sum}
 use Rattle.lists.specs.ListLaws.{T-true, T-of}
+use Rattle.table.specs.Table.{tableOf}
 use Rattle.law_counting.specs.Counting.{sum-ext}
 use Rattle.law_counting.specs.Kept.{kept-past}
-use Rattle.sheet.specs.Module.{Module, TypeDef, typeAt, isStruct}
+use Rattle.sheet.specs.Module.{Module, noModule, TypeDef, typeAt, isStruct}
 use Rattle.sheet.specs.Decode.{decode}
 use Rattle.sheet.specs.TypeLaws.{struct-known}
 use Rattle.host.specs.Host.{HostFn}
-use Rattle.parents.specs.Parents.{mostOnChain, parentsFaults}
+use Rattle.sheet.specs.Editions.{mostOf}
+use Rattle.sheet.specs.EditionLaws.{most-from-one}
+use Rattle.parents.specs.Parents.{parentsFaults}
 use Rattle.spans.specs.Spans.{roots, noPre}
-use Rattle.table.specs.Table.{tableWords}
 use Rattle.descends.specs.declared.FamilySize.the-variants.{Size}
 use Rattle.descends.specs.Sizes.{widthIn}
 use Rattle.families.specs.Families.{isFrom, family, familySize, structCount, structNumbers}
@@ -30,7 +32,6 @@ use Rattle.law_linked.specs.Sized.{query-from, width-is-size, size-answered}
 use Rattle.law_renumbering.specs.AllRules.{parents-kept}
 use Rattle.law_renumbering.specs.Accepting.{types-few}
 use Rattle.calls.specs.CallLaws.{of-left}
-use Rattle.error.specs.declared.LoadError.{LoadError}
 use Rattle.error.specs.declared.Loaded.{Loaded}
 use Rattle.error.specs.declared.Loaded.the-variants.{Accepted, Refused}
 use Rattle.exact.specs.Exact.{valueOf}
@@ -38,7 +39,7 @@ use Rattle.parents.specs.Forest.{entryAt}
 use Rattle.load.specs.KindLaws.{accepted}
 use Rattle.law_forest.specs.Entries.{isStructEntry, entry-out}
 use Rattle.report_lines.specs.declared.Totals.{Totals}
-use Rattle.report_lines.specs.Report.{programRoom, judged, typesOf, counting, countedTypes, sizesTotal, totals, totalLine}
+use Rattle.report_lines.specs.Report.{programRoom, judged, counting, countedModule, structsTotal, sizesTotal, totals, totalLine}
 use Rattle.report_lines.specs.ReportLaws.{refused-none}
 use Rattle.report_lines.specs.Reported.{totalNumbers, AddsSheets, none, next}
 use Rattle.family_calls.specs.FamilyCalls.{SizesAsked, SizesRight, ReportsRight, TotalsExact}
@@ -56,59 +57,62 @@ counted-is sheet n m d e = let q : Structs n ≡ Structs (structCount (m .types)
 -- ── on the table that load left ──
 
 module _ (sheet : List ℕ) (hosts : List HostFn) (m : Module) (d : decode sheet ≡ some m) (rest : List ℕ)
-    (kept : parentsFaults mostOnChain m ≡ []) (few : length (m .types) ≤ noPre) where
+    (kept : parentsFaults (mostOf m) m ≡ []) (few : length (m .types) ≤ noPre) where
   abbrev left : List ℕ
-  left = tableWords mostOnChain hosts m ++ rest
+  left = tableOf hosts m ++ rest
 
   abbrev types : List TypeDef
   types = m .types
 
-  one : 1 ≤ mostOnChain
-  one = omega arith
+  abbrev most : ℕ
+  most = mostOf m
 
-  rule : ChainRule mostOnChain types
-  rule = chain-rule mostOnChain one m kept
+  one : 1 ≤ most
+  one = most-from-one (m .edition)
+
+  rule : ChainRule most types
+  rule = chain-rule most one m kept
 
   -- a number that is no type descends from nothing
-  unknown : (a t : ℕ) → length types ≤ t → isFrom mostOnChain types t a ≡ false
-  unknown a t h = go (isFrom mostOnChain types t a) refl
+  unknown : (a t : ℕ) → length types ≤ t → isFrom most types t a ≡ false
+  unknown a t h = go (isFrom most types t a) refl
     where
-      go : (b : Bool) → isFrom mostOnChain types t a ≡ b → isFrom mostOnChain types t a ≡ false
+      go : (b : Bool) → isFrom most types t a ≡ b → isFrom most types t a ≡ false
       go false e = e
       go true e =
-          let s = (from-reaches mostOnChain types rule t a) .0 (T-of (isFrom mostOnChain types t a) e) .0 in
+          let s = (from-reaches most types rule t a) .0 (T-of (isFrom most types t a) e) .0 in
           absurd (omega (arith, struct-known types t (T-true (isStruct (typeAt types t)) s)))
 
-  queried-size : (a : ℕ) (answer : ℕ → Bool) → ((t : ℕ) → answer t ≡ isFrom mostOnChain types t a) → (n : ℕ) → length types ≤ n →
-      familySize mostOnChain types a ≡ length (keep answer (from 0 n))
+  queried-size : (a : ℕ) (answer : ℕ → Bool) → ((t : ℕ) → answer t ≡ isFrom most types t a) → (n : ℕ) → length types ≤ n →
+      familySize most types a ≡ length (keep answer (from 0 n))
   unfolding familySize family
   queried-size a answer h n k =
-      sym (ap length (kept-past (λ t. isFrom mostOnChain types t a) 0 (length types) n k (λ t q. unknown a t (omega arith))))
+      sym (ap length (kept-past (λ t. isFrom most types t a) 0 (length types) n k (λ t q. unknown a t (omega arith))))
       ∙ ap (λ (p : ℕ → Bool). length (keep p (from 0 n))) (sym (fun-ext h))
 
   sizes-left : SizesAsked sheet m left
   sizes-left = record {
-    declared = λ a x q. q .answers ∙ size-answered mostOnChain hosts m rest kept one few a;
+    declared = λ a x q. q .answers ∙ size-answered most hosts m rest kept one few a;
     queried = λ a x q answer h n k.
         q .answers
-        ∙ size-answered mostOnChain hosts m rest kept one few a
+        ∙ size-answered most hosts m rest kept one few a
         ∙ ap Size
         (queried-size a (λ t. eqb (answer t) 1)
         (λ t.
-        ap (λ y. eqb y 1) (h t .answers ∙ query-from mostOnChain hosts m rest kept one few t a)
-        ∙ is-one (isFrom mostOnChain types t a)) n k);
+        ap (λ y. eqb y 1) (h t .answers ∙ query-from most hosts m rest kept one few t a)
+        ∙ is-one (isFrom most types t a)) n k);
     spans = λ a x q s.
         q .answers
-        ∙ size-answered mostOnChain hosts m rest kept one few a
-        ∙ ap Size (sym (width-is-size mostOnChain hosts m rest kept one few a s) ∙ unfold widthIn in refl);
+        ∙ size-answered most hosts m rest kept one few a
+        ∙ ap Size (sym (width-is-size most hosts m rest kept one few a s) ∙ unfold widthIn in refl);
     others = λ a x q s.
         q .answers
-        ∙ size-answered mostOnChain hosts m rest kept one few a
-        ∙ ap Size (size-none mostOnChain types rule a s);
+        ∙ size-answered most hosts m rest kept one few a
+        ∙ ap Size (size-none most types rule a s);
     rootsAddUp = λ size h n c.
-        sum-ext size (familySize mostOnChain types)
-        (λ a. same-size (h a .answers ∙ size-answered mostOnChain hosts m rest kept one few a)) (roots types)
-        ∙ roots-all mostOnChain types rule
+        sum-ext size (familySize most types)
+        (λ a. same-size (h a .answers ∙ size-answered most hosts m rest kept one few a)) (roots types)
+        ∙ roots-all most types rule
         ∙ sym (counted-is sheet n m d (c .answers));
   }
     where
@@ -121,7 +125,7 @@ pub sizes-right : SizesRight
 unfolding SizesRight
 sizes-right sheet hosts table work l left workLeft m d c ws b =
     of-left sheet hosts table work l left workLeft c (SizesAsked sheet m) m d ws b λ hs f rest.
-    sizes-left sheet hs m d rest (parents-kept mostOnChain hs m f) (types-few sheet m d)
+    sizes-left sheet hs m d rest (parents-kept (mostOf m) hs m f) (types-few sheet m d)
 
 -- ── reports ──
 
@@ -129,32 +133,38 @@ no-types : (t : ℕ) → T (isStructEntry (entryAt [] t)) → ⊥
 no-types t h = subst T (ap isStructEntry (entry-out [] t (omega arith))) h
 
 -- the types that count have short chains
-pub counted-rule : (hosts sheet : List ℕ) → ChainRule mostOnChain (countedTypes hosts sheet)
-unfolding countedTypes counting
+abbrev pub ModuleRule : Module → Type 0
+ModuleRule m = ChainRule (mostOf m) (m .types)
+
+pub counted-rule : (hosts sheet : List ℕ) → ModuleRule (countedModule hosts sheet)
+unfolding countedModule counting
 counted-rule hosts sheet = go (judged hosts sheet) refl
   where
-    go : (r : Loaded) → judged hosts sheet ≡ r → ChainRule mostOnChain (counting r (typesOf (decode sheet)))
-    go (Refused e) q = record { short = λ t h. absurd (no-types t h) }
+    go : (r : Loaded) → judged hosts sheet ≡ r → ModuleRule (counting r (decode sheet))
+    go (Refused e) q = record { short = λ t h. absurd (no-types t (unfold noModule in h)) }
     go (Accepted l) q =
         let k = (accepted sheet hosts programRoom programRoom l) .0 (unfold judged in q) in
-        subst (λ o. ChainRule mostOnChain (typesOf o)) (sym (k .decodes))
-        (unfold typesOf in chain-rule mostOnChain (omega arith) (k .source) (parents-kept mostOnChain (k .hostList) (k .source) (k .kept)))
+        let m = k .source in
+        subst (λ o. ModuleRule (counting (Accepted l) o)) (sym (k .decodes))
+        (chain-rule (mostOf m) (most-from-one (m .edition)) m (parents-kept (mostOf m) (k .hostList) m (k .kept)))
 
 pub reports-right : ReportsRight
 unfolding ReportsRight
 reports-right hosts sheet lines r left k = record {
   refused = λ e q.
       let none = refused-none hosts sheet e (sym (k .answers) ∙ q) in
-      let structs : r .structs ≡ 0 = k .structs ∙ ap structCount none ∙ unfold structCount in refl in
-      let sizes : r .sizes ≡ 0 = k .sizes ∙ ap sizesTotal none ∙ unfold sizesTotal structNumbers in refl in
+      let structs : r .structs ≡ 0 = k .structs ∙ ap structsTotal none ∙ unfold structsTotal structCount noModule in refl in
+      let sizes : r .sizes ≡ 0 = k .sizes ∙ ap sizesTotal none ∙ unfold sizesTotal structNumbers noModule in refl in
       (omega (arith, k .words, k .structs), structs, sizes);
-  rootsAddUp = roots-all mostOnChain (countedTypes hosts sheet) (counted-rule hosts sheet) ∙ sym (k .structs);
+  rootsAddUp =
+      let m = countedModule hosts sheet in
+      roots-all (mostOf m) (m .types) (counted-rule hosts sheet) ∙ sym (k .structs ∙ unfold structsTotal in refl);
 }
 
 -- each sum has grown by that over the sheets
 added : (hosts : List ℕ) {sheets : List (List ℕ)} {t u : Totals} → AddsSheets hosts sheets t u →
-    (valueOf (u .structs) ≡ valueOf (t .structs) + sum structCount (map (countedTypes hosts) sheets))
-    × (valueOf (u .sizes) ≡ valueOf (t .sizes) + sum sizesTotal (map (countedTypes hosts) sheets))
+    (valueOf (u .structs) ≡ valueOf (t .structs) + sum structsTotal (map (countedModule hosts) sheets))
+    × (valueOf (u .sizes) ≡ valueOf (t .sizes) + sum sizesTotal (map (countedModule hosts) sheets))
 added hosts none = (omega arith, omega arith)
 added hosts (next a s) = let e = added hosts s in (omega (arith, a .structs, e .0), omega (arith, a .sizes, e .1))
 

@@ -11,7 +11,7 @@ use Rattle.error.specs.declared.LoadError.{LoadError}
 use Rattle.error.specs.declared.Loaded.the-variants.{Accepted, Refused}
 use Rattle.sheet.specs.Module.{Module, typeAt, isStruct}
 use Rattle.sheet.specs.Decode.{decode}
-use Rattle.parents.specs.Parents.{mostOnChain}
+use Rattle.sheet.specs.Editions.{mostOf}
 use Rattle.spans.specs.Spans.{roots}
 use Rattle.descends.specs.Descends.{preIn, postIn}
 use Rattle.descends.specs.declared.FamilySize.{FamilySize}
@@ -23,7 +23,7 @@ use Rattle.families.specs.declared.StructCount.the-variants.{Structs}
 use Rattle.families.specs.Counted.{structsIn, countNumbers}
 use Rattle.report_lines.specs.declared.SheetReport.{SheetReport}
 use Rattle.report_lines.specs.declared.Totals.{Totals}
-use Rattle.report_lines.specs.Report.{countedTypes, totalLine}
+use Rattle.report_lines.specs.Report.{countedModule, totalLine}
 use Rattle.report_lines.specs.Reported.{Reports, totalNumbers, AddsSheets}
 use Rattle.calls.specs.Calls.{Loads, Asks, Begins}
 
@@ -54,7 +54,7 @@ pub record CountsNumbers (sheet two : List ℕ) : Type 0 where
 -- what the size query answers on a table of the sheet's types
 pub record SizesAsked (sheet : List ℕ) (m : Module) (table : List ℕ) : Type 0 where
   -- how many types descend from a by declared parents, itself included
-  pub declared : (a : ℕ) (x : FamilySize) → AsksSize table a x → x ≡ Size (familySize mostOnChain (m .types) a)
+  pub declared : (a : ℕ) (x : FamilySize) → AsksSize table a x → x ≡ Size (familySize (mostOf m) (m .types) a)
   -- how many numbers descend from it by the family query, asked for each number below n, all types among them
   pub queried : (a : ℕ) (x : FamilySize) → AsksSize table a x → (answer : ℕ → ℕ) → ((t : ℕ) → Asks table t a (answer t)) →
       (n : ℕ) → length (m .types) ≤ n → x ≡ Size (length (keep (λ t. eqb (answer t) 1) (from 0 n)))
@@ -74,12 +74,16 @@ SizesRight =
 
 -- ── reports ──
 
+-- the sizes of all root families of a module
+abbrev pub rootSizes : Module → ℕ
+rootSizes m = sum (familySize (mostOf m) (m .types)) (roots (m .types))
+
 -- of every report on a sheet
 pub record ReportRight (hosts sheet : List ℕ) (r : SheetReport) : Type 0 where
   -- a refused sheet has no line and adds to no total
   pub refused : (e : LoadError) → r .answer ≡ Refused e → (r .words ≡ 0) × (r .structs ≡ 0) × (r .sizes ≡ 0)
   -- the sizes of the root families add up to the struct types that were counted
-  pub rootsAddUp : sum (familySize mostOnChain (countedTypes hosts sheet)) (roots (countedTypes hosts sheet)) ≡ r .structs
+  pub rootsAddUp : rootSizes (countedModule hosts sheet) ≡ r .structs
 
 unfoldable pub ReportsRight : Type 0
 ReportsRight = (hosts sheet lines : List ℕ) (r : SheetReport) (left : List ℕ) → Reports hosts sheet lines r left → ReportRight hosts sheet r

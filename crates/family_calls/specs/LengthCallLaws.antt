@@ -6,11 +6,13 @@ use native.Mathlib.Omega.{arith}
 use lib.ListN.{length}
 use Rattle.sheet.specs.Module.{Module}
 use Rattle.host.specs.Host.{HostFn}
-use Rattle.parents.specs.Parents.{mostOnChain, parentsFaults}
+use Rattle.sheet.specs.Editions.{mostOf}
+use Rattle.sheet.specs.EditionLaws.{most-from-one}
+use Rattle.parents.specs.Parents.{parentsFaults}
 use Rattle.spans.specs.Spans.{noPre}
-use Rattle.table.specs.Table.{tableWords}
 use Rattle.descends.specs.declared.ChainLength.{ChainLength}
 use Rattle.descends.specs.declared.ChainLength.the-variants.{Length}
+use Rattle.table.specs.Table.{tableOf}
 use Rattle.families.specs.Families.{isFrom, familyDepth}
 use Rattle.law_forest.specs.Once.{ChainRule}
 use Rattle.law_forest.specs.Accepted.{chain-rule}
@@ -26,18 +28,18 @@ use Rattle.family_calls.specs.LengthCalls.{LengthsAsked, LengthsRight}
 -- ── on a table that load left ──
 
 module _ (hosts : List HostFn) (m : Module) (rest : List ℕ)
-    (kept : parentsFaults mostOnChain m ≡ []) (few : length (m .types) ≤ noPre) where
+    (kept : parentsFaults (mostOf m) m ≡ []) (few : length (m .types) ≤ noPre) where
   abbrev left : List ℕ
-  left = tableWords mostOnChain hosts m ++ rest
+  left = tableOf hosts m ++ rest
 
   abbrev depth : ℕ → ℕ
-  depth t = familyDepth mostOnChain (m .types) t
+  depth t = familyDepth (mostOf m) (m .types) t
 
-  rule : ChainRule mostOnChain (m .types)
-  rule = chain-rule mostOnChain (omega arith) m kept
+  rule : ChainRule (mostOf m) (m .types)
+  rule = chain-rule (mostOf m) (most-from-one (m .edition)) m kept
 
   says : (t : ℕ) {x : ChainLength} → AsksLength left t x → x ≡ Length (depth t)
-  says t q = q .answers ∙ length-answered mostOnChain hosts m rest t
+  says t q = q .answers ∙ length-answered (mostOf m) hosts m rest t
 
   told : (t : ℕ) {n : ℕ} → AsksLength left t (Length n) → n ≡ depth t
   told t {n} q = let e : Length n ≡ Length (depth t) = says t q in cc
@@ -45,16 +47,16 @@ module _ (hosts : List HostFn) (m : Module) (rest : List ℕ)
   lengths-left : LengthsAsked m left
   lengths-left = record {
     declared = λ t x q. says t q;
-    others = λ t x q s. says t q ∙ ap Length (depth-other mostOnChain (m .types) t s);
-    spans = λ t x q h. says t q ∙ ap Length (sym (word-is-depth mostOnChain hosts m rest t h));
-    atRoots = λ t x q k. says t q ∙ ap Length (depth-root mostOnChain (m .types) rule t k);
+    others = λ t x q s. says t q ∙ ap Length (depth-other (mostOf m) (m .types) t s);
+    spans = λ t x q h. says t q ∙ ap Length (sym (word-is-depth (mostOf m) hosts m rest t h));
+    atRoots = λ t x q k. says t q ∙ ap Length (depth-root (mostOf m) (m .types) rule t k);
     atChildren = λ t p n x k a q.
         says t q
-        ∙ ap Length (depth-child mostOnChain (m .types) rule t p k ∙ ap suc (sym (told p a)));
+        ∙ ap Length (depth-child (mostOf m) (m .types) rule t p k ∙ ap suc (sym (told p a)));
     rising = λ t a n k d ne p q.
-        let from = cond-one (isFrom mostOnChain (m .types) t a)
-        (sym (query-from mostOnChain hosts m rest kept (omega arith) few t a) ∙ sym (d .answers)) in
-        omega (arith, told a p, told t q, depth-below mostOnChain (m .types) rule t a from ne);
+        let from = cond-one (isFrom (mostOf m) (m .types) t a)
+        (sym (query-from (mostOf m) hosts m rest kept (most-from-one (m .edition)) few t a) ∙ sym (d .answers)) in
+        omega (arith, told a p, told t q, depth-below (mostOf m) (m .types) rule t a from ne);
   }
 
 -- ── of every call ──
@@ -63,4 +65,4 @@ pub lengths-right : LengthsRight
 unfolding LengthsRight
 lengths-right sheet hosts table work l left workLeft m d c words b =
     of-left sheet hosts table work l left workLeft c (LengthsAsked m) m d words b λ hs f rest.
-    lengths-left hs m rest (parents-kept mostOnChain hs m f) (types-few sheet m d)
+    lengths-left hs m rest (parents-kept (mostOf m) hs m f) (types-few sheet m d)

@@ -9,7 +9,7 @@ use Rattle.error.specs.declared.Loaded.the-variants.{Accepted}
 use Rattle.sheet.specs.Module.{Module, typeAt, isStruct}
 use Rattle.sheet.specs.Decode.{decode}
 use Rattle.parents.specs.Forest.{root, sub, entryAt}
-use Rattle.parents.specs.Parents.{mostOnChain}
+use Rattle.sheet.specs.Editions.{mostOf}
 use Rattle.descends.specs.Descends.{lengthIn}
 use Rattle.descends.specs.declared.ChainLength.{ChainLength}
 use Rattle.descends.specs.declared.ChainLength.the-variants.{Length}
@@ -26,7 +26,7 @@ pub record AsksLengthNumbers (table : List ℕ) (t : ℕ) (two : List ℕ) : Typ
 -- what the query for chain lengths answers on a table of the module's types
 pub record LengthsAsked (m : Module) (table : List ℕ) : Type 0 where
   -- how many numbers the chain of a struct type has by declared parents, itself included
-  pub declared : (t : ℕ) (x : ChainLength) → AsksLength table t x → x ≡ Length (familyDepth mostOnChain (m .types) t)
+  pub declared : (t : ℕ) (x : ChainLength) → AsksLength table t x → x ≡ Length (familyDepth (mostOf m) (m .types) t)
   -- 0 for any other number
   pub others : (t : ℕ) (x : ChainLength) → AsksLength table t x → isStruct (typeAt (m .types) t) ≡ false → x ≡ Length 0
   -- the third word of a type's span

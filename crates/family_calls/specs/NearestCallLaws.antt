@@ -14,15 +14,17 @@ use Rattle.error.specs.Answer.{typeNumber}
 use Rattle.sheet.specs.Module.{Module}
 use Rattle.sheet.specs.Decode.{decode}
 use Rattle.host.specs.Host.{HostFn}
-use Rattle.parents.specs.Parents.{mostOnChain, parentsFaults}
+use Rattle.sheet.specs.Editions.{mostOf}
+use Rattle.sheet.specs.EditionLaws.{most-from-one}
+use Rattle.parents.specs.Parents.{parentsFaults}
 use Rattle.spans.specs.Spans.{noPre}
-use Rattle.table.specs.Table.{tableWords}
 use Rattle.descends.specs.Descends.{descends}
 use Rattle.descends.specs.declared.NearestFamily.{NearestFamily}
 use Rattle.descends.specs.declared.NearestFamily.the-variants.{Found, NoFamily}
 use Rattle.descends.specs.Nearest.{familyOf, nearestIn}
+use Rattle.table.specs.Table.{tableOf}
 use Rattle.families.specs.Families.{isFrom, nearest}
-use Rattle.load.specs.Load.{moduleFaults}
+use Rattle.load.specs.Load.{faultsOf}
 use Rattle.renumber.specs.Renumber.{isRenumbering, image, renumber}
 use Rattle.law_forest.specs.Once.{ChainRule}
 use Rattle.law_forest.specs.Accepted.{chain-rule}
@@ -83,50 +85,50 @@ same-test false false e = refl
 
 -- no parent rule is broken, and every number of a type fits a word
 record Sound (m : Module) : Type 0 where
-  kept : parentsFaults mostOnChain m ≡ []
+  kept : parentsFaults (mostOf m) m ≡ []
   few : length (m .types) ≤ noPre
 
-abbrev tableOf : List HostFn → Module → List ℕ → List ℕ
-tableOf hosts m rest = tableWords mostOnChain hosts m ++ rest
+abbrev longTable : List HostFn → Module → List ℕ → List ℕ
+longTable hosts m rest = tableOf hosts m ++ rest
 
-rule : (m : Module) → Sound m → ChainRule mostOnChain (m .types)
-rule m s = chain-rule mostOnChain (omega arith) m (s .kept)
+rule : (m : Module) → Sound m → ChainRule (mostOf m) (m .types)
+rule m s = chain-rule (mostOf m) (most-from-one (m .edition)) m (s .kept)
 
 module _ (hosts : List HostFn) (m : Module) (rest : List ℕ) (s : Sound m) where
   abbrev d : ℕ → ℕ → Bool
-  d t a = isFrom mostOnChain (m .types) t a
+  d t a = isFrom (mostOf m) (m .types) t a
 
   abbrev near : ℕ → ℕ → Option ℕ
-  near t u = nearest mostOnChain (m .types) t u
+  near t u = nearest (mostOf m) (m .types) t u
 
-  near-told : (t u : ℕ) → nearestIn (tableOf hosts m rest) t u ≡ familyOf (near t u)
-  near-told t u = nearest-answered mostOnChain hosts m rest (s .kept) (omega arith) (s .few) t u
+  near-told : (t u : ℕ) → nearestIn (longTable hosts m rest) t u ≡ familyOf (near t u)
+  near-told t u = nearest-answered (mostOf m) hosts m rest (s .kept) (most-from-one (m .edition)) (s .few) t u
 
-  from-told : (t a : ℕ) → descends (tableOf hosts m rest) t a ≡ cond (d t a) 1 0
-  from-told t a = query-from mostOnChain hosts m rest (s .kept) (omega arith) (s .few) t a
+  from-told : (t a : ℕ) → descends (longTable hosts m rest) t a ≡ cond (d t a) 1 0
+  from-told t a = query-from (mostOf m) hosts m rest (s .kept) (most-from-one (m .edition)) (s .few) t a
 
-  yes-told : (t a : ℕ) {x : ℕ} → x ≡ descends (tableOf hosts m rest) t a → (x ≡ 1) ↔ T (d t a)
+  yes-told : (t a : ℕ) {x : ℕ} → x ≡ descends (longTable hosts m rest) t a → (x ≡ 1) ↔ T (d t a)
   yes-told t a e =
       let o = one-true (d t a) in
       (λ h. o .0 (sym (from-told t a) ∙ sym e ∙ h), λ h. e ∙ from-told t a ∙ o .1 h)
 
-  family-told : (t u f : ℕ) {z : NearestFamily} → z ≡ nearestIn (tableOf hosts m rest) t u →
+  family-told : (t u f : ℕ) {z : NearestFamily} → z ≡ nearestIn (longTable hosts m rest) t u →
       (z ≡ Found (typeNumber f)) ↔ (near t u ≡ some f)
   family-told t u f e =
       let o = found-told (near t u) f in
       (λ h. o .0 (sym (near-told t u) ∙ sym e ∙ h), λ h. e ∙ near-told t u ∙ o .1 h)
 
   -- both descend from a exactly where the nearest family does
-  both-told : (t u a x y : ℕ) (z : NearestFamily) → Asks (tableOf hosts m rest) t a x → Asks (tableOf hosts m rest) u a y →
-      AsksNearest (tableOf hosts m rest) t u z →
-      ((x ≡ 1) × (y ≡ 1)) ↔ ((f : ℕ) × (z ≡ Found (typeNumber f)) × Asks (tableOf hosts m rest) f a 1)
+  both-told : (t u a x y : ℕ) (z : NearestFamily) → Asks (longTable hosts m rest) t a x → Asks (longTable hosts m rest) u a y →
+      AsksNearest (longTable hosts m rest) t u z →
+      ((x ≡ 1) × (y ≡ 1)) ↔ ((f : ℕ) × (z ≡ Found (typeNumber f)) × Asks (longTable hosts m rest) f a 1)
   both-told t u a x y z p q n =
-      let b = nearest-both mostOnChain (m .types) (rule m s) t u a in
+      let b = nearest-both (mostOf m) (m .types) (rule m s) t u a in
       let first = yes-told t a (p .answers) in
       let second = yes-told u a (q .answers) in (
         λ h.
             let k = b .0 (first .0 (h .0), second .0 (h .1)) in
-            let yes : Asks (tableOf hosts m rest) (k .0) a 1 = record { answers = sym ((yes-told (k .0) a refl) .1 (k .2)) } in
+            let yes : Asks (longTable hosts m rest) (k .0) a 1 = record { answers = sym ((yes-told (k .0) a refl) .1 (k .2)) } in
             (k .0, (family-told t u (k .0) (n .answers)) .1 (k .1), yes),
         λ h.
             let found = (family-told t u (h .0) (n .answers)) .0 (h .1) in
@@ -134,25 +136,25 @@ module _ (hosts : List HostFn) (m : Module) (rest : List ℕ) (s : Sound m) wher
             (first .1 (k .0), second .1 (k .1)),
       )
 
-  nearest-left : NearestAsked m (tableOf hosts m rest)
+  nearest-left : NearestAsked m (longTable hosts m rest)
   nearest-left = record {
     declared = λ t u x q. q .answers ∙ near-told t u;
     none = λ t u x q.
         let e = none-told (near t u) in
-        let n = nearest-none mostOnChain (m .types) (rule m s) t u in
+        let n = nearest-none (mostOf m) (m .types) (rule m s) t u in
         (λ h. n .0 (e .0 (sym (near-told t u) ∙ sym (q .answers) ∙ h)), λ h. q .answers ∙ near-told t u ∙ e .1 (n .1 h));
     turned = λ t u x y p q.
         p .answers
         ∙ near-told t u
-        ∙ ap familyOf (nearest-turned mostOnChain (m .types) (rule m s) t u)
+        ∙ ap familyOf (nearest-turned (mostOf m) (m .types) (rule m s) t u)
         ∙ sym (near-told u t)
         ∙ sym (q .answers);
-    itself = λ t x q z. (family-told t t t (q .answers)) .1 (nearest-self mostOnChain (m .types) (rule m s) t z);
+    itself = λ t x q z. (family-told t t t (q .answers)) .1 (nearest-self (mostOf m) (m .types) (rule m s) t z);
     grouped = λ ask h t u v.
         let told : (x y : ℕ) → ask x y ≡ familyOf (near x y) = λ x y. h x y .answers ∙ near-told x y in
         (λ i. thenAsk (told t u i) (λ f. told f v i))
         ∙ then-told (near t u) (λ f. near f v)
-        ∙ ap familyOf (nearest-three mostOnChain (m .types) (rule m s) t u v)
+        ∙ ap familyOf (nearest-three (mostOf m) (m .types) (rule m s) t u v)
         ∙ sym (then-told (near u v) (λ f. near t f))
         ∙ sym (λ i. thenAsk (told u v i) (λ f. told t f i));
     both = both-told;
@@ -162,38 +164,41 @@ module _ (hosts : List HostFn) (m : Module) (rest : List ℕ) (s : Sound m) wher
 
 module _ (hosts : List HostFn) (r : List ℕ) (m : Module) (renumbers : T (isRenumbering (length (m .types)) r))
     (s : Sound m) (z : Sound (renumber r m)) (rest restAlso : List ℕ)
-    (agree : AgreeAsked r m (tableOf hosts m rest) (tableOf hosts (renumber r m) restAlso)) where
+    (agree : AgreeAsked r m (longTable hosts m rest) (longTable hosts (renumber r m) restAlso)) where
   abbrev dAlso : ℕ → ℕ → Bool
-  dAlso t a = isFrom mostOnChain (renumber r m .types) t a
+  dAlso t a = isFrom (mostOf (renumber r m)) (renumber r m .types) t a
 
-  alike : (t a : ℕ) → isFrom mostOnChain (m .types) t a ≡ dAlso (image r t) (image r a)
+  alike : (t a : ℕ) → isFrom (mostOf m) (m .types) t a ≡ dAlso (image r t) (image r a)
   alike t a =
-      same-test (isFrom mostOnChain (m .types) t a) (dAlso (image r t) (image r a))
+      same-test (isFrom (mostOf m) (m .types) t a) (dAlso (image r t) (image r a))
       (sym (from-told hosts m rest s t a)
-      ∙ agree .families t a (descends (tableOf hosts m rest) t a) (descends (tableOf hosts (renumber r m) restAlso) (image r t) (image r a))
+      ∙ agree .families t a (descends (longTable hosts m rest) t a)
+      (descends (longTable hosts (renumber r m) restAlso) (image r t) (image r a))
       (record { answers = refl }) (record { answers = refl })
       ∙ from-told hosts (renumber r m) restAlso z (image r t) (image r a))
 
   moved : (t u : ℕ) →
-      nearest mostOnChain (renumber r m .types) (image r t) (image r u) ≡ Option·map (image r) (nearest mostOnChain (m .types) t u)
+      nearest (mostOf (renumber r m)) (renumber r m .types) (image r t) (image r u)
+      ≡ Option·map (image r) (nearest (mostOf m) (m .types) t u)
+  unfolding renumber
   moved t u =
       let b = bijection (length (m .types)) r (listed (length (m .types)) r renumbers) in
-      nearest-image mostOnChain (m .types) (renumber r m .types) (rule m s) (rule (renumber r m) z)
+      nearest-image (mostOf m) (m .types) (renumber r m .types) (rule m s) (rule (renumber r m) z)
       (image r) (origins r) (b .forth) alike t u
 
-  nearest-moves : NearestMoves r (tableOf hosts m rest) (tableOf hosts (renumber r m) restAlso)
+  nearest-moves : NearestMoves r (longTable hosts m rest) (longTable hosts (renumber r m) restAlso)
   unfolding NearestMoves
   nearest-moves t u x y p q =
       q .answers
       ∙ near-told hosts (renumber r m) restAlso z (image r t) (image r u)
       ∙ ap familyOf (moved t u)
-      ∙ image-told r (nearest mostOnChain (m .types) t u)
+      ∙ image-told r (nearest (mostOf m) (m .types) t u)
       ∙ ap (familyImage r) (sym (near-told hosts m rest s t u) ∙ sym (p .answers))
 
 -- ── of every call ──
 
-sound : (sheet : List ℕ) (hosts : List HostFn) (m : Module) → decode sheet ≡ some m → moduleFaults mostOnChain hosts m ≡ [] → Sound m
-sound sheet hosts m d f = record { kept = parents-kept mostOnChain hosts m f; few = types-few sheet m d }
+sound : (sheet : List ℕ) (hosts : List HostFn) (m : Module) → decode sheet ≡ some m → faultsOf hosts m ≡ [] → Sound m
+sound sheet hosts m d f = record { kept = parents-kept (mostOf m) hosts m f; few = types-few sheet m d }
 
 pub nearest-right : NearestRight
 unfolding NearestRight

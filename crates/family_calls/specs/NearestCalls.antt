@@ -10,7 +10,7 @@ use Rattle.error.specs.declared.Loaded.the-variants.{Accepted}
 use Rattle.error.specs.Answer.{typeNumber}
 use Rattle.sheet.specs.Module.{Module, typeAt, isStruct}
 use Rattle.sheet.specs.Decode.{decode}
-use Rattle.parents.specs.Parents.{mostOnChain}
+use Rattle.sheet.specs.Editions.{mostOf}
 use Rattle.descends.specs.declared.NearestFamily.{NearestFamily}
 use Rattle.descends.specs.declared.NearestFamily.the-variants.{Found, NoFamily, NotLinked}
 use Rattle.descends.specs.Nearest.{familyOf, nearestIn, nearestNumbers}
@@ -41,10 +41,10 @@ thenAsk NotLinked next = NotLinked
 -- what the query for the nearest family answers on a table of the module's types
 pub record NearestAsked (m : Module) (table : List ℕ) : Type 0 where
   -- the common ancestor with the longest chain by declared parents, or none
-  pub declared : (t u : ℕ) (x : NearestFamily) → AsksNearest table t u x → x ≡ familyOf (nearest mostOnChain (m .types) t u)
+  pub declared : (t u : ℕ) (x : NearestFamily) → AsksNearest table t u x → x ≡ familyOf (nearest (mostOf m) (m .types) t u)
   -- none exactly where the roots differ or a number is no struct type
   pub none : (t u : ℕ) (x : NearestFamily) → AsksNearest table t u x →
-      (x ≡ NoFamily) ↔ (haveOneRoot mostOnChain (m .types) t u ≡ false)
+      (x ≡ NoFamily) ↔ (haveOneRoot (mostOf m) (m .types) t u ≡ false)
   -- the pair's order does not matter
   pub turned : (t u : ℕ) (x y : NearestFamily) → AsksNearest table t u x → AsksNearest table u t y → x ≡ y
   -- a struct type with itself gives itself

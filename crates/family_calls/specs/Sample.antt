@@ -3,14 +3,11 @@ use mathlib.Core.Path.{_≡_, refl}
 use mathlib.Core.List.{List, [], _∷_}
 use Prim.Native.Nat.{ℕ}
 use lib.ListN.{getD, replicate}
-use Rattle.lists.specs.Lists.{sum}
 use Rattle.error.specs.declared.Loaded.the-variants.{Accepted}
 use Rattle.error.specs.Answer.{numbers}
 use Rattle.sheet.specs.Module.{Module}
 use Rattle.sheet.specs.Encode.{sheetOf}
 use Rattle.host.specs.Host.{hostsOf}
-use Rattle.parents.specs.Parents.{mostOnChain}
-use Rattle.spans.specs.Spans.{roots}
 use Rattle.descends.specs.declared.FamilySize.the-variants.{Size}
 use Rattle.descends.specs.Sizes.{sizeIn}
 use Rattle.families.specs.declared.StructCount.the-variants.{Structs}
@@ -20,13 +17,14 @@ use Rattle.families.specs.Cases.{sample}
 use Rattle.load.specs.Load.{load, tableAfter, workAfter}
 use Rattle.law_everything.specs.Everything.{everything}
 use Rattle.calls.specs.Calls.{Loads, Begins}
-use Rattle.family_calls.specs.FamilyCalls.{SizesAsked, SizesRight}
+use Rattle.family_calls.specs.FamilyCalls.{SizesAsked, SizesRight, rootSizes}
 use Rattle.family_calls.specs.FamilyCallLaws.{sizes-right}
 
 -- structs 0 and 1 below struct 2, a type that is no struct, and a root of its own
 abbrev pub small : Module
 small =
     record {
+      edition = 1;
       strings = [] ∷ [];
       types = sample;
       consts = [];
@@ -69,6 +67,6 @@ told = (
 )
 
 -- four struct types in two root families
-counted : (structsIn sheet ≡ Structs 4) × (sum (familySize mostOnChain sample) (roots sample) ≡ 4)
+counted : (structsIn sheet ≡ Structs 4) × (rootSizes small ≡ 4)
 unfolding everything structsIn countedOf structCount familySize family isFrom
 counted = (refl, refl)

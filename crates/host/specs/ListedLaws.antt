@@ -15,7 +15,7 @@ use Rattle.reader.specs.Value.{Whole}
 use Rattle.reader.specs.ValueLaws.{got-whole, value-got}
 use Rattle.host.specs.declared.Listed.{Listed}
 use Rattle.host.specs.declared.Listed.the-variants.{Broken, Intact}
-use Rattle.host.specs.Host.{HostFn, hostFn, ifDistinct, decodeHosts}
+use Rattle.host.specs.Host.{HostFn, hostFn, ifDistinct, hostEdition, decodeHosts}
 use Rattle.host.specs.HostLaws.{distinct-inv}
 use Rattle.host.specs.Listed.{listedFor, listedOf, hostsIn}
 use Rattle.host.specs.Seek.{listedIn}
@@ -30,10 +30,10 @@ listed-broken bytes = go (lengthWord (words bytes)) (decodeHosts bytes)
     go n (some hs) = unfold listedFor in (λ e. let z : _≡_ {A = ℕ} 0 1 = cc in absurd (omega arith), λ e. let z : _≡_ {A = ℕ} 0 1 = cc in absurd (omega arith))
 
 -- of a frame it is what its words hold
-pub listed-framed : (bytes ws : List ℕ) → framed bytes ≡ some ws → listedOf bytes ≡ listedIn (length ws) ws
+pub listed-framed : (bytes ws : List ℕ) → framed hostEdition bytes ≡ some ws → listedOf bytes ≡ listedIn (length ws) ws
 unfolding listedOf listedIn decodeHosts content
 listed-framed bytes ws e =
-    ap₂ (λ n o. listedFor n (ifDistinct (content (listOf hostFn) o))) (sym (framed-length bytes ws e .0)) e
+    ap₂ (λ n o. listedFor n (ifDistinct (content (listOf hostFn) o))) (sym (framed-length hostEdition bytes ws e .0)) e
 
 -- ── what a caller has, once the list is intact ──
 
@@ -52,14 +52,15 @@ pub intact : {C : Type 0} (bytes : List ℕ) (n : ℕ) → listedOf bytes ≡ In
 unfolding listedOf decodeHosts
 intact bytes n e f =
     intact-inv n (lengthWord (words bytes)) (decodeHosts bytes) e λ hs g l.
-    distinct-inv (content (listOf hostFn) (framed bytes)) hs g λ c d.
-    content-inv (listOf hostFn) (framed bytes) hs c λ ws k r.
-    let z : length ws ≡ n = framed-length bytes ws k .0 ∙ l in
+    distinct-inv (content (listOf hostFn) (framed hostEdition bytes)) hs g λ c d.
+    content-inv (listOf hostFn) (framed hostEdition bytes) hs c λ ws k r.
+    let z : length ws ≡ n = framed-length hostEdition bytes ws k .0 ∙ l in
     f hs
     (record {
       decoded = g;
       length-is = l;
-      read = ap (λ m. listOf hostFn (firstWords bytes m) 2) (sym z) ∙ ap (λ w. listOf hostFn w 2) (firstWords-framed bytes ws k) ∙ r ∙ ap (got hs) z;
+      read = ap (λ m. listOf hostFn (firstWords bytes m) 2) (sym z)
+          ∙ ap (λ w. listOf hostFn w 2) (firstWords-framed hostEdition bytes ws k) ∙ r ∙ ap (got hs) z;
     })
 
 module _ (bytes : List ℕ) (n : ℕ) {r : Listed} (e : r ≡ Intact n) (f : r ≡ listedOf bytes) where

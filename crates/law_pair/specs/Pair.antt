@@ -49,9 +49,10 @@ guarded =
     }
 
 -- struct 0 is below struct 2, types 1 and 3 are equal, and the function of signature 4 is bound to hook 7
-abbrev family : Module
-family =
+abbrev family : ℕ → Module
+family e =
     record {
+      edition = e;
       strings = [] ∷ [];
       types = child 3 ∷ coroutine ∷ child 0 ∷ coroutine ∷ func (record { params = dyn ∷ dyn ∷ dyn ∷ []; results = [] }) ∷ [];
       consts = [];
@@ -66,15 +67,26 @@ family =
 abbrev turn : List ℕ
 turn = 1 ∷ 2 ∷ 0 ∷ 4 ∷ 3 ∷ []
 
+abbrev sheetIn : ℕ → List ℕ
+sheetIn e = sheetOf (family e)
+
+abbrev turnedIn : ℕ → List ℕ
+turnedIn e = sheetOf (renumber turn (family e))
+
 abbrev sheet : List ℕ
-sheet = sheetOf family
+sheet = sheetIn 1
 
 abbrev turned : List ℕ
-turned = sheetOf (renumber turn family)
+turned = turnedIn 1
 
 pair : RenumberedSheet turn sheet turned
 unfolding everything
-pair = record { source = family; bytes = refl; intact = refl; renumbers = tt; written = refl }
+pair = record { source = family 1; bytes = refl; intact = refl; renumbers = tt; written = refl }
+
+-- and one of edition 2
+pair-second : RenumberedSheet turn (sheetIn 2) (turnedIn 2)
+unfolding everything
+pair-second = record { source = family 2; bytes = refl; intact = refl; renumbers = tt; written = refl }
 
 -- ── two calls ──
 
@@ -95,22 +107,37 @@ calling s = record { answers = refl; leaves = refl; clears = refl }
 abbrev words : List ℕ → ℕ
 words s = getD (numbers (answer s)) 2 0
 
-accepted : (answer sheet ≡ Accepted (words sheet)) × (answer turned ≡ Accepted (words turned))
+-- both sheets of an edition are accepted
+abbrev BothAccepted : ℕ → Type 0
+BothAccepted e = (answer (sheetIn e) ≡ Accepted (words (sheetIn e))) × (answer (turnedIn e) ≡ Accepted (words (turnedIn e)))
+
+accepted : BothAccepted 1
 unfolding everything
 accepted = (refl, refl)
+
+accepted-second : BothAccepted 2
+unfolding everything
+accepted-second = (refl, refl)
 
 not-short : (s : List ℕ) → answer s ≡ Accepted (words s) → NotShort (answer s)
 unfolding NotShort
 not-short s e q = let z : _≡_ {A = ℕ} 0 1 = cc in omega arith
 
 -- what the theorem gives
-agreed : AgreeAsked turn family (left sheet) (left turned)
-unfolding NumberingFree Begins pair
-agreed =
-    numbering-free turn (hostsOf []) sheet turned pair
-    slice slice (answer sheet) (left sheet) (workAfter sheet (hostsOf []) slice slice) (calling sheet) (not-short sheet (accepted .0))
-    slice slice (answer turned) (left turned) (workAfter turned (hostsOf []) slice slice) (calling turned)
-    (not-short turned (accepted .1)) .agree (words sheet) (words turned) (accepted .0) (accepted .1) (left sheet) (left turned) refl refl
+module _ (e : ℕ) (w : RenumberedSheet turn (sheetIn e) (turnedIn e)) (a : BothAccepted e) where
+  alike : AgreeAsked turn (w .source) (left (sheetIn e)) (left (turnedIn e))
+  unfolding NumberingFree Begins
+  alike =
+      let s = sheetIn e in
+      let t = turnedIn e in
+      numbering-free turn (hostsOf []) s t w
+      slice slice (answer s) (left s) (workAfter s (hostsOf []) slice slice) (calling s) (not-short s (a .0))
+      slice slice (answer t) (left t) (workAfter t (hostsOf []) slice slice) (calling t) (not-short t (a .1))
+      .agree (words s) (words t) (a .0) (a .1) (left s) (left t) refl refl
+
+agreed : AgreeAsked turn (family 1) (left sheet) (left turned)
+unfolding pair
+agreed = alike 1 pair accepted
 
 -- ── carried over ──
 
@@ -147,3 +174,10 @@ hooked = sym (agreed .hooks) ∙ first-table .2
 
 pub guards : catchIn (left turned) 0 ≡ caught
 guards = sym (agreed .catches 0 (omega arith)) ∙ first-table .3
+
+-- in edition 2 as well
+pub below-second : descends (left (turnedIn 2)) 1 0 ≡ 1
+unfolding everything
+below-second =
+    sym (alike 2 pair-second accepted-second .families 0 2 1 (descends (left (turnedIn 2)) 1 0)
+    (record { answers = refl }) (ask (turnedIn 2) 1 0))

@@ -15,14 +15,15 @@ use Rattle.lists.specs.ListLaws.{T-true}
 use Rattle.sheet.specs.Module.{Module}
 use Rattle.sheet.specs.Decode.{decode}
 use Rattle.host.specs.Host.{HostFn, decodeHosts}
-use Rattle.parents.specs.Parents.{mostOnChain}
+use Rattle.sheet.specs.Editions.{mostOf}
+use Rattle.sheet.specs.EditionLaws.{most-from-one}
 use Rattle.spans.specs.Spans.{noPre, descendsBySpan}
-use Rattle.table.specs.Table.{hookSection, tableWords}
+use Rattle.table.specs.Table.{hookSection, tableOf}
 use Rattle.descends.specs.Descends.{descends}
 use Rattle.descends.specs.declared.ChainLength.the-variants.{Length}
 use Rattle.descends.specs.Lengths.{chainLengthIn}
 use Rattle.families.specs.Families.{familyDepth}
-use Rattle.load.specs.Load.{moduleFaults, longEnough, Opened, withHosts, opening, answer, load, linkedOver, tableThen, tableAfter}
+use Rattle.load.specs.Load.{faultsOf, longEnough, Opened, withHosts, opening, answer, load, linkedOver, tableThen, tableAfter}
 use Rattle.law_forest.specs.Accepted.{families}
 use Rattle.sheet.specs.DecodedLaws.{decoded-few}
 use Rattle.canon.specs.Canon.{canonType}
@@ -48,8 +49,8 @@ first-accepted l (e ∷ es) = (λ h. absurd h, λ q. let z : _≡_ {A = ℕ} 0 1
 pub record Opening (hosts : List ℕ) (table : List ℕ) (m : Module) (after : List ℕ) : Type 0 where
   pub hostList : List HostFn
   pub decodes : decodeHosts hosts ≡ some hostList
-  pub kept : moduleFaults mostOnChain hostList m ≡ []
-  pub left : after ≡ tableWords mostOnChain hostList m ++ drop (length (tableWords mostOnChain hostList m)) table
+  pub kept : faultsOf hostList m ≡ []
+  pub left : after ≡ tableOf hostList m ++ drop (length (tableOf hostList m)) table
 
 over-table : (es : List LoadError) (linked table : List ℕ) → es ≡ [] → linkedOver es linked table ≡ linked ++ drop (length linked) table
 unfolding linkedOver
@@ -61,8 +62,8 @@ unfolding withHosts answer tableThen isAccepted
 opened-hosts hosts table m enough none q h = absurd h
 opened-hosts hosts table m false (some hs) q h = absurd h
 opened-hosts hosts table m true (some hs) q h =
-    let k = (first-accepted (length (tableWords mostOnChain hs m)) (moduleFaults mostOnChain hs m)) .0 h in
-    record { hostList = hs; decodes = q; kept = k; left = over-table (moduleFaults mostOnChain hs m) (tableWords mostOnChain hs m) table k }
+    let k = (first-accepted (length (tableOf hs m)) (faultsOf hs m)) .0 h in
+    record { hostList = hs; decodes = q; kept = k; left = over-table (faultsOf hs m) (tableOf hs m) table k }
 
 module _ (hosts : List ℕ) (c : Call) (m : Module) (intact : decode (c .sheet) ≡ some m) where
   pub accepted-opening : T (accepts hosts c) → Opening hosts (c .table) m (leaves hosts c)
@@ -73,7 +74,7 @@ module _ (hosts : List ℕ) (c : Call) (m : Module) (intact : decode (c .sheet) 
       (opened-hosts hosts (c .table) m (longEnough (c .sheet) (length (c .table)) (length (c .work))) (decodeHosts hosts) refl
       (subst (λ (o : Opened). T (isAccepted (answer o))) e h))
 
-  pub opening-accepted : LongEnough hosts c → (hs : List HostFn) → decodeHosts hosts ≡ some hs → moduleFaults mostOnChain hs m ≡ [] → T (accepts hosts c)
+  pub opening-accepted : LongEnough hosts c → (hs : List HostFn) → decodeHosts hosts ≡ some hs → faultsOf hs m ≡ [] → T (accepts hosts c)
   unfolding LongEnough accepts answers load withHosts answer
   opening-accepted room hs q k = go (longEnough (c .sheet) (length (c .table)) (length (c .work))) refl
     where
@@ -86,7 +87,7 @@ module _ (hosts : List ℕ) (c : Call) (m : Module) (intact : decode (c .sheet) 
       go : (b : Bool) → longEnough (c .sheet) (length (c .table)) (length (c .work)) ≡ b → T (accepts hosts c)
       go true e =
           subst (λ (o : Opened). T (isAccepted (answer o))) (sym (opens true e))
-          ((first-accepted (length (tableWords mostOnChain hs m)) (moduleFaults mostOnChain hs m)) .1 k)
+          ((first-accepted (length (tableOf hs m)) (faultsOf hs m)) .1 k)
       go false e = absurd (room (ap answer (opens false e)))
 
 -- what is accepted had room
@@ -110,15 +111,15 @@ cond-zero true n = absurd (n tt)
 cond-zero false n = refl
 
 -- on the linked table of an accepted module, whatever follows it
-pub family-front : (hs : List HostFn) (m : Module) → moduleFaults mostOnChain hs m ≡ [] → length (m .types) ≤ noPre → (rest : List ℕ) →
-    Family m (tableWords mostOnChain hs m ++ rest)
+pub family-front : (hs : List HostFn) (m : Module) → faultsOf hs m ≡ [] → length (m .types) ≤ noPre → (rest : List ℕ) →
+    Family m (tableOf hs m ++ rest)
 family-front hs m faultless few rest =
-    let left = tableWords mostOnChain hs m ++ rest in
-    let one : 1 ≤ mostOnChain = omega arith in
-    let kept = parents-kept mostOnChain hs m faultless in
-    let spans : ℕ → ℕ → Bool = descendsBySpan mostOnChain (m .types) in
-    let at : (t a : ℕ) → descends left t a ≡ cond (spans t a) 1 0 = answered mostOnChain hs m rest kept one few in
-    let f = families mostOnChain one m kept in
+    let left = tableOf hs m ++ rest in
+    let one = most-from-one (m .edition) in
+    let kept = parents-kept (mostOf m) hs m faultless in
+    let spans : ℕ → ℕ → Bool = descendsBySpan (mostOf m) (m .types) in
+    let at : (t a : ℕ) → descends left t a ≡ cond (spans t a) 1 0 = answered (mostOf m) hs m rest kept one few in
+    let f = families (mostOf m) one m kept in
     record {
       yes = λ t a. (
         λ e. let k = (f t a) .0 (cond-one (spans t a) (sym (at t a) ∙ e)) in record { below = k .0; above = k .1; reaches = k .2 },
@@ -134,27 +135,27 @@ types-few sheet m intact = omega (arith, decoded-few sheet m intact)
 pub family-left : (hosts : List ℕ) (c : Call) (m : Module) → decode (c .sheet) ≡ some m → T (accepts hosts c) → Family m (leaves hosts c)
 family-left hosts c m intact h =
     let o = accepted-opening hosts c m intact h in
-    let rest = drop (length (tableWords mostOnChain (o .hostList) m)) (c .table) in
+    let rest = drop (length (tableOf (o .hostList) m)) (c .table) in
     subst (Family m) (sym (o .left)) (family-front (o .hostList) m (o .kept) (types-few (c .sheet) m intact) rest)
 
 -- ── what is found in what load left ──
 
 -- the words that are read as chain lengths, hooks, canonical numbers and catch tables are those
 pub record Holds (m : Module) (table : List ℕ) : Type 0 where
-  pub lengths : (t : ℕ) → chainLengthIn table t ≡ Length (familyDepth mostOnChain (m .types) t)
+  pub lengths : (t : ℕ) → chainLengthIn table t ≡ Length (familyDepth (mostOf m) (m .types) t)
   pub hooks : hooksIn table ≡ hookSection m
   pub canonical : (t : ℕ) → t < length (m .types) → canonIn table t ≡ canonType (m .types) t
   pub catches : (f : ℕ) → f < length (m .funcs) → catchIn table f ≡ catchTable (funcAt m f)
 
-pub holds-front : (hs : List HostFn) (m : Module) (rest : List ℕ) → Holds m (tableWords mostOnChain hs m ++ rest)
+pub holds-front : (hs : List HostFn) (m : Module) (rest : List ℕ) → Holds m (tableOf hs m ++ rest)
 holds-front hs m rest = record {
-  lengths = length-answered mostOnChain hs m rest;
-  hooks = hooks-found mostOnChain hs m rest;
-  canonical = canon-found mostOnChain hs m rest;
-  catches = catch-found mostOnChain hs m rest;
+  lengths = length-answered (mostOf m) hs m rest;
+  hooks = hooks-found (mostOf m) hs m rest;
+  canonical = canon-found (mostOf m) hs m rest;
+  catches = catch-found (mostOf m) hs m rest;
 }
 
 pub holds-left : (hosts : List ℕ) (c : Call) (m : Module) → decode (c .sheet) ≡ some m → T (accepts hosts c) → Holds m (leaves hosts c)
 holds-left hosts c m intact h =
     let o = accepted-opening hosts c m intact h in
-    subst (Holds m) (sym (o .left)) (holds-front (o .hostList) m (drop (length (tableWords mostOnChain (o .hostList) m)) (c .table)))
+    subst (Holds m) (sym (o .left)) (holds-front (o .hostList) m (drop (length (tableOf (o .hostList) m)) (c .table)))

@@ -6,6 +6,7 @@ use Prim.Native.Nat.{ℕ, _≤_}
 use native.Mathlib.Omega.{arith}
 use lib.ListN.{length}
 use Rattle.lists.specs.Lists.{allOf}
+use Rattle.table.specs.Table.{tableOf}
 use Rattle.law_faults.specs.Empty.{append-empty}
 use Rattle.error.specs.declared.LoadErrorKind.{LoadErrorKind}
 use Rattle.error.specs.declared.LoadErrorKind.the-variants.{MissedStruct}
@@ -15,14 +16,15 @@ use Rattle.error.specs.Answer.{kindNumbers, first}
 use Rattle.sheet.specs.Module.{Module}
 use Rattle.host.specs.Host.{HostFn}
 use Rattle.types.specs.Types.{typesFaults}
-use Rattle.parents.specs.Parents.{mostOnChain, parentsFaults}
+use Rattle.sheet.specs.Editions.{mostOf}
+use Rattle.parents.specs.Parents.{parentsFaults}
+use Rattle.sheet.specs.EditionLaws.{most-from-one}
 use Rattle.spans.specs.Spans.{walkFaults}
 use Rattle.consts.specs.Consts.{mostDeep, constsFaults}
 use Rattle.imports.specs.Imports.{importsFaults, globalsFaults}
 use Rattle.funcs.specs.Funcs.{funcsFaults}
 use Rattle.code.specs.Code.{codesFaults}
 use Rattle.hooks.specs.Hooks.{hooksFaults, startFaults, exportsFaults}
-use Rattle.table.specs.Table.{tableWords}
 use Rattle.load.specs.Load.{moduleFaults, answer, load}
 use Rattle.load.specs.Kinds.{kindNumber, judged}
 use Rattle.load.specs.CodeKinds.{codes-kinds}
@@ -69,8 +71,8 @@ unfolding answer
 kinds-given sheet hosts table work e q = refused-cases sheet hosts table work e q
     (λ t. rw t)
     (λ m hs a.
-    let one : 1 ≤ mostOnChain = omega arith in
-    let t = rules-lead mostOnChain one hs m .lead (length (tableWords mostOnChain hs m)) e a in
+    let one : 1 ≤ mostOf m = most-from-one (m .edition) in
+    let t = rules-lead (mostOf m) one hs m .lead (length (tableOf hs m)) e a in
     either (early (e .kind)) t)
   where
     either : {b : Bool} (a : Bool) → b ≡ true → (a || b) ≡ true

@@ -11,15 +11,16 @@ use Rattle.law_counting.specs.Counting.{bool-ext}
 use Rattle.sheet.specs.Module.{Func, Module}
 use Rattle.host.specs.Host.{HostFn}
 use Rattle.canon.specs.Canon.{canonType}
-use Rattle.parents.specs.Parents.{mostOnChain}
+use Rattle.sheet.specs.Editions.{mostOf}
+use Rattle.sheet.specs.EditionLaws.{most-from-one}
 use Rattle.spans.specs.Spans.{Descendant}
 use Rattle.code.specs.Callee.{funcAt}
 use Rattle.table.specs.Records.{catchTable}
-use Rattle.table.specs.Table.{hookSection, tableWords}
+use Rattle.table.specs.Table.{hookSection, tableOf}
 use Rattle.descends.specs.Descends.{descends}
 use Rattle.descends.specs.declared.ChainLength.the-variants.{Length}
 use Rattle.descends.specs.Lengths.{chainLengthIn}
-use Rattle.load.specs.Load.{moduleFaults}
+use Rattle.load.specs.Load.{faultsOf}
 use Rattle.law_faults.specs.Together.{Together}
 use Rattle.sheet.specs.DecodedLaws.{Coded, decoded}
 use Rattle.law_linked.specs.Find.{hooksIn, canonIn, catchIn}
@@ -68,7 +69,7 @@ module _ (r : List ℕ) (m : Module) (l : Listed (length (m .types)) r) (left le
 module _ (r : List ℕ) (m : Module) (l : Listed (length (m .types)) r) (left leftAlso : List ℕ) (h : Holds m left) (k : Holds (renumber r m) leftAlso) where
   lengths-same : (t : ℕ) → chainLengthIn left t ≡ chainLengthIn leftAlso (image r t)
   unfolding renumber
-  lengths-same t = h .lengths t ∙ ap Length (depth-moved (moved r m l) mostOnChain t) ∙ sym (k .lengths (image r t))
+  lengths-same t = h .lengths t ∙ ap Length (depth-moved (moved r m l) (mostOf m) t) ∙ sym (k .lengths (image r t))
 
   hooks-same : hooksIn left ≡ hooksIn leftAlso
   hooks-same = h .hooks ∙ hooks-image r m ∙ sym (k .hooks)
@@ -109,8 +110,9 @@ module _ (r hosts : List ℕ) (first second : Call) (w : Renumbered r (first .sh
   good : Coded (w .source)
   good = decoded (first .sheet) (w .source) (w .decodes)
 
-  kept-together : (hs : List HostFn) → Together (moduleFaults mostOnChain hs (w .source)) (moduleFaults mostOnChain hs (renumber r (w .source)))
-  kept-together hs = rules-together mostOnChain (omega arith) r (w .source) places good hs
+  kept-together : (hs : List HostFn) → Together (faultsOf hs (w .source)) (faultsOf hs (renumber r (w .source)))
+  unfolding renumber
+  kept-together hs = rules-together (mostOf (w .source)) (most-from-one (w .source .edition)) r (w .source) places good hs
 
   agree-left : T (accepts hosts first) → T (accepts hosts second) → Agree r (w .source) (leaves hosts first) (leaves hosts second)
   agree-left a b =
@@ -139,12 +141,12 @@ renumbered r hosts first second w room roomAlso = record {
 
 -- and so do any words that begin with the linked tables of the two modules
 pub agree-fronts : (r first second : List ℕ) (w : Renumbered r first second) (hs : List HostFn) →
-    moduleFaults mostOnChain hs (w .source) ≡ [] → moduleFaults mostOnChain hs (renumber r (w .source)) ≡ [] → (rest restAlso : List ℕ) →
-    Agree r (w .source) (tableWords mostOnChain hs (w .source) ++ rest) (tableWords mostOnChain hs (renumber r (w .source)) ++ restAlso)
+    faultsOf hs (w .source) ≡ [] → faultsOf hs (renumber r (w .source)) ≡ [] → (rest restAlso : List ℕ) →
+    Agree r (w .source) (tableOf hs (w .source) ++ rest) (tableOf hs (renumber r (w .source)) ++ restAlso)
 agree-fronts r first second w hs faultless faultlessAlso rest restAlso =
     let m = w .source in
     agree-of r m (listed (length (m .types)) r (w .renumbering)) (decoded first m (w .decodes))
-    (tableWords mostOnChain hs m ++ rest) (tableWords mostOnChain hs (renumber r m) ++ restAlso)
+    (tableOf hs m ++ rest) (tableOf hs (renumber r m) ++ restAlso)
     (family-front hs m faultless (types-few first m (w .decodes)) rest)
     (family-front hs (renumber r m) faultlessAlso (types-few second (renumber r m) (w .decodesAlso)) restAlso)
     (holds-front hs m rest) (holds-front hs (renumber r m) restAlso)

@@ -1,6 +1,6 @@
 -- The renumbered module has a sheet, of as many words, and its bytes decode to it.
 use mathlib.Core.Path.{_≡_, refl, sym, ap, _∙_}
-use mathlib.Core.Bool.{Bool, true}
+use mathlib.Core.Bool.{Bool, true, _&&_}
 use mathlib.Core.List.{List, [], _∷_}
 use mathlib.Core.Option.{some}
 use Prim.Native.Nat.{ℕ, _+_, _≤_, _<_, max}
@@ -13,16 +13,17 @@ use Rattle.lists.specs.ListLaws.{both, and-first, and-second, all-at, all-from}
 use Rattle.lists.specs.AllLaws.{all-concatMap, all-map}
 use Rattle.law_counting.specs.Counting.{sum, sum-ext}
 use Rattle.law_counting.specs.Sums.{sum-moved, length-by-places}
-use Rattle.blocks.specs.Blocks.{mostBlocks, edition, blocksFor, titled}
+use Rattle.blocks.specs.Blocks.{mostBlocks, isEdition, blocksFor, titled}
 use Rattle.blocks.specs.ByteLaws.{isByte, isWord}
 use Rattle.reader.specs.Reader.{encodeList}
 use Rattle.reader.specs.Text.{encodeString}
 use Rattle.reader.specs.FrameLaws.{framable}
 use Rattle.sheet.specs.Module.{TypeDef, coroutine, Module, typeAt}
+use Rattle.sheet.specs.Editions.{newestEdition}
 use Rattle.sheet.specs.Decode.{decode}
 use Rattle.sheet.specs.Encode.{encodeType, encodeConst, encodeImport, encodeGlobal, encodeFunc, encodeHook, encodeExport, encode, sheetOf}
 use Rattle.sheet.specs.Coded.{codedType, codedGlobal, codedFunc, codedExport, codedModule}
-use Rattle.sheet.specs.SheetLaws.{wellCoded, decode-coded, decode-sheet}
+use Rattle.sheet.specs.SheetLaws.{wellCoded, well-framable, decode-coded, decode-sheet}
 use Rattle.sheet.specs.DecodedLaws.{mostWords, decoded, decoded-few}
 use Rattle.renumber.specs.Renumber.{isRenumbering, image, typeImage, importImage, globalImage, funcImage, exportImage, renumber}
 use Rattle.law_renumbering.specs.Bijection.{Listed, listed}
@@ -101,13 +102,23 @@ module _ (r : List ℕ) (m : Module) (l : Listed (length (m .types)) r) where
         all-map codedExport codedExport (exportImage π) (λ e. refl) (m .exports),
       )
 
-framable-kept : (n : ℕ) (xs ys : List ℕ) → n ≤ mostWords → Kept n xs ys → framable xs ≡ true → framable ys ≡ true
+framable-kept : (newest e n : ℕ) (xs ys : List ℕ) → n ≤ mostWords → Kept n xs ys → framable newest e xs ≡ true → framable newest e ys ≡ true
 unfolding framable titled
-framable-kept n xs ys few k h =
-    let t : Kept n (titled xs) (titled ys) = self (edition ∷ []) ⊕ word (length xs + 2) (length ys + 2) (λ few h. omega (arith, k .size)) ⊕ k in
-    let a = allOf isWord (titled xs) in
-    let b = leb (blocksFor (length (titled xs))) mostBlocks in
-    both (t .words few (and-first a b h)) (ap (λ i. leb (blocksFor i) mostBlocks) (t .size) ∙ and-second a b h)
+framable-kept newest e n xs ys few k h =
+    let t : Kept n (titled e xs) (titled e ys) =
+    self (e ∷ []) ⊕ word (length xs + 2) (length ys + 2) (λ few h. omega (arith, k .size)) ⊕ k in
+    let x = isEdition newest e in
+    let a = allOf isWord (titled e xs) in
+    let b = leb (blocksFor (length (titled e xs))) mostBlocks in
+    let g = and-first (x && a) b h in
+    both (both (and-first x a g) (t .words few (and-second x a g))) (ap (λ i. leb (blocksFor i) mostBlocks) (t .size)
+    ∙ and-second (x && a) b h)
+
+-- of the same edition
+edition-kept : (r : List ℕ) (m : Module) → framable newestEdition (m .edition) (encode (renumber r m)) ≡ true →
+    framable newestEdition (renumber r m .edition) (encode (renumber r m)) ≡ true
+unfolding renumber
+edition-kept r m h = h
 
 -- the second sheet has as many words as the first
 pub renumbered-size : (r : List ℕ) (m : Module) → T (isRenumbering (length (m .types)) r) → length (encode (renumber r m)) ≡ length (encode m)
@@ -120,8 +131,9 @@ renumbered-coded r m h c =
     let s = sheetOf m in
     let d : decode s ≡ some m = decode-sheet m c in
     both
-    (codes-kept r m l (decoded s m d .types) ∙ and-first (codedModule m) (framable (encode m)) c)
-    (framable-kept (length (m .types)) (encode m) (encode (renumber r m)) (decoded-few s m d) (module-kept r m l) (and-second (codedModule m) (framable (encode m)) c))
+    (codes-kept r m l (decoded s m d .types) ∙ and-first (codedModule m) (framable newestEdition (m .edition) (encode m)) c)
+    (edition-kept r m (framable-kept newestEdition (m .edition) (length (m .types)) (encode m) (encode (renumber r m))
+    (decoded-few s m d) (module-kept r m l) (well-framable m c)))
 
 -- the bytes of the second sheet decode to the renumbered module
 pub renumbered-decodes : (r s : List ℕ) (m : Module) → allOf isByte s ≡ true → decode s ≡ some m → T (isRenumbering (length (m .types)) r) →

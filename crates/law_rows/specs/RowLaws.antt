@@ -8,18 +8,18 @@ use Rattle.law_everything.specs.Everything.{everything}
 use Rattle.law_rows.specs.Rows.{rows, holds, RowsHold}
 
 -- each part by computing: together they are more steps than one theorem may take
-short-rows : allOf holds (take 22 rows) ≡ true
+short-rows : allOf holds (take 31 rows) ≡ true
 unfolding everything rows holds
 short-rows = refl
 
-chain-of-256 : allOf holds (take 1 (drop 22 rows)) ≡ true
+chain-of-256 : allOf holds (take 1 (drop 31 rows)) ≡ true
 unfolding everything rows holds
 chain-of-256 = refl
 
-chain-of-257 : allOf holds (drop 1 (drop 22 rows)) ≡ true
+chain-of-257 : allOf holds (drop 1 (drop 31 rows)) ≡ true
 unfolding everything rows holds
 chain-of-257 = refl
 
 pub rows-hold : RowsHold
 unfolding RowsHold
-rows-hold = all-parts holds 22 rows short-rows (all-parts holds 1 (drop 22 rows) chain-of-256 chain-of-257)
+rows-hold = all-parts holds 31 rows short-rows (all-parts holds 1 (drop 31 rows) chain-of-256 chain-of-257)

@@ -6,28 +6,42 @@ use mathlib.Core.Bool.{Bool, true}
 use mathlib.Core.Option.{none}
 use lib.ListN.{take, replicate}
 use Rattle.lists.specs.Lists.{allOf, same, from}
+use Rattle.blocks.specs.Blocks.{titled, written}
 use Rattle.error.specs.Answer.{numbers, refusal}
-use Rattle.sheet.specs.Module.{ValueType, ref, dyn, TypeDef, func, struct, coroutine, Const, Func, Handler, Inst, Hook, Module}
+use Rattle.sheet.specs.Module.{ValueType, ref, dyn, TypeDef, func, struct, coroutine, Const, Func, Handler, Inst, Hook, Module, noModule}
 use Rattle.sheet.specs.Encode.{sheetOf}
 use Rattle.host.specs.Host.{hostsOf}
-use Rattle.parents.specs.Parents.{mostOnChain}
 use Rattle.table.specs.Records.{catchTable, noHandler}
-use Rattle.table.specs.Table.{canonSection, spanSection, tableWords}
+use Rattle.table.specs.Table.{canonSection, spansOf, tableOf}
 use Rattle.descends.specs.Descends.{descends}
 use Rattle.load.specs.Load.{load}
 
 -- ── modules ──
 
-abbrev moduleOf : List TypeDef → List Const → List Func → List Hook → Module
-moduleOf ts cs fs hs =
-    record { strings = [] ∷ []; types = ts; consts = cs; imports = []; globals = []; funcs = fs; hooks = hs; start+ = 0; exports = [] }
+-- of an edition, with one string
+abbrev moduleIn : ℕ → List TypeDef → List Const → List Func → List Hook → Module
+moduleIn e ts cs fs hs =
+    record {
+      edition = e;
+      strings = [] ∷ [];
+      types = ts;
+      consts = cs;
+      imports = [];
+      globals = [];
+      funcs = fs;
+      hooks = hs;
+      start+ = 0;
+      exports = [];
+    }
 
-abbrev emptyModule : Module
-emptyModule =
-    record { strings = []; types = []; consts = []; imports = []; globals = []; funcs = []; hooks = []; start+ = 0; exports = [] }
+abbrev moduleOf : List TypeDef → List Const → List Func → List Hook → Module
+moduleOf = moduleIn 1
+
+abbrev typesIn : ℕ → List TypeDef → Module
+typesIn e ts = moduleIn e ts [] [] []
 
 abbrev ofTypes : List TypeDef → Module
-ofTypes ts = moduleOf ts [] [] []
+ofTypes ts = typesIn 1 ts
 
 abbrev ofConsts : List Const → Module
 ofConsts cs = moduleOf [] cs [] []
@@ -43,6 +57,13 @@ child p = struct (record { name = 0; parent+ = p; fields = []; methods = [] })
 -- n structs on one chain
 abbrev chainOf : ℕ → List TypeDef
 chainOf n = map child (from 0 n)
+
+-- 64 structs on one chain whose topmost has a parent that is absent: struct 0 lowest, struct 0 topmost
+abbrev lowestFirst : List TypeDef
+lowestFirst = map child (from 2 63) ++ (child 1000 ∷ [])
+
+abbrev topmostFirst : List TypeDef
+topmostFirst = child 1000 ∷ map child (from 1 63)
 
 -- a plain constant, then n of which each holds the one before
 abbrev nested : ℕ → List Const
@@ -87,7 +108,7 @@ hooked results =
 
 -- does t descend from a, by the table
 abbrev familyOf : List TypeDef → ℕ → ℕ → List ℕ
-familyOf ts t a = descends (tableWords mostOnChain [] (ofTypes ts)) t a ∷ []
+familyOf ts t a = descends (tableOf [] (ofTypes ts)) t a ∷ []
 
 -- function 0 has no code, function 1 no signature
 abbrev secondUnsigned : Module
@@ -107,8 +128,8 @@ answerTo sheet = numbers (load sheet (hostsOf []) room room)
 abbrev answerOf : Module → List ℕ
 answerOf m = answerTo (sheetOf m)
 
-abbrev spansOf : List TypeDef → List ℕ
-spansOf ts = spanSection mostOnChain (ofTypes ts)
+abbrev spanWords : List TypeDef → List ℕ
+spanWords ts = spansOf (ofTypes ts)
 
 abbrev kindOf : Module → List ℕ
 kindOf m = take 1 (answerOf m)
@@ -135,8 +156,8 @@ passes = 0 ∷ []
 unfoldable pub rows : List (List ℕ × List ℕ)
 rows =
     (answerTo emptySheet, 0 ∷ 0 ∷ 49 ∷ 0 ∷ 0 ∷ 0 ∷ [])
-    ∷ (sheetOf emptyModule, emptySheet)
-    ∷ (spansOf twoUnderOne, 3 ∷ 1 ∷ 2 ∷ 2 ∷ 2 ∷ 3 ∷ 2 ∷ 0 ∷ 3 ∷ 1 ∷ [])
+    ∷ (sheetOf noModule, emptySheet)
+    ∷ (spanWords twoUnderOne, 3 ∷ 1 ∷ 2 ∷ 2 ∷ 2 ∷ 3 ∷ 2 ∷ 0 ∷ 3 ∷ 1 ∷ [])
     ∷ (kindOf (ofTypes twoUnderOne), passes)
     ∷ (answerOf (ofTypes (child 1 ∷ [])), refusal 17)
     ∷ (canonSection (ofTypes (coroutine ∷ coroutine ∷ TypeDef.array (ref 0) ∷ TypeDef.array (ref 1) ∷ [])), 4 ∷ 0 ∷ 0 ∷ 2 ∷ 3 ∷ [])
@@ -156,6 +177,15 @@ rows =
     ∷ (descends (replicate 9 1) 0 0 ∷ [], 25 ∷ [])
     ∷ (answerOf tailUnderOne, 15 ∷ 0 ∷ 0 ∷ 0 ∷ 1 ∷ 2 ∷ [])
     ∷ (answerOf secondUnsigned, 3 ∷ 1 ∷ 7 ∷ 0 ∷ 2 ∷ 0 ∷ [])
+    ∷ (kindOf (typesIn 2 (chainOf 64)), passes)
+    ∷ (answerOf (typesIn 2 (chainOf 65)), refusal 17)
+    ∷ (kindOf (ofTypes (chainOf 65)), passes)
+    ∷ (answerOf (typesIn 2 lowestFirst), refusal 17)
+    ∷ (answerOf (typesIn 2 topmostFirst), refusal 16)
+    ∷ (answerOf (typesIn 2 (child 1 ∷ [])), refusal 17)
+    ∷ (answerOf (typesIn 3 []), refusal 1)
+    ∷ (answerOf (typesIn 0 []), refusal 1)
+    ∷ (numbers (load emptySheet (written (titled 2 (0 ∷ []))) room room), refusal 23)
     ∷ (kindOf (ofTypes (chainOf 256)), passes)
     ∷ (answerOf (ofTypes (chainOf 257)), refusal 17)
     ∷ []

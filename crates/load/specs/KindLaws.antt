@@ -19,9 +19,9 @@ use Rattle.error.specs.Answer.{kindNumbers, inModule, first}
 use Rattle.sheet.specs.Module.{Module}
 use Rattle.sheet.specs.Decode.{decode}
 use Rattle.host.specs.Host.{HostFn, decodeHosts}
-use Rattle.parents.specs.Parents.{mostOnChain}
-use Rattle.table.specs.Table.{tableWords}
-use Rattle.load.specs.Load.{moduleFaults, longEnough, Opened, refused, opened, withHosts, withModule, opening, answer, load}
+use Rattle.sheet.specs.Editions.{mostOf}
+use Rattle.table.specs.Table.{tableOf}
+use Rattle.load.specs.Load.{faultsOf, longEnough, Opened, refused, opened, withHosts, withModule, opening, answer, load}
 use Rattle.load.specs.LoadLaws.{module-opened}
 use Rattle.load.specs.Kinds.{kindNumber, judged, ofRules}
 use Rattle.load.specs.RuleKinds.{rules-kinds}
@@ -53,7 +53,7 @@ first-passes p l (x ∷ es) e h q = let z : x ≡ e = cc in subst (λ (y : LoadE
 pub opened-refused : (m : Module) (hs : List HostFn) (e : LoadError) → answer (opened m hs) ≡ Refused e → ofRules (e .kind) ≡ true
 unfolding answer
 opened-refused m hs e q =
-    first-passes (λ e. ofRules (e .kind)) (length (tableWords mostOnChain hs m)) (moduleFaults mostOnChain hs m) e (rules-kinds mostOnChain hs m) q
+    first-passes (λ e. ofRules (e .kind)) (length (tableOf hs m)) (faultsOf hs m) e (rules-kinds (mostOf m) hs m) q
 
 -- the refusals before the rules are 1, 23 and 24
 pub refused-early : (b : Bool) (d : Option Module) (o : Option (List HostFn)) (k : LoadErrorKind) → withModule b d o ≡ refused k → early k ≡ true
@@ -110,8 +110,8 @@ pub record Links (sheet hosts : List ℕ) (table work l : ℕ) : Type 0 where
   pub decodes : decode sheet ≡ some source
   pub lists : decodeHosts hosts ≡ some hostList
   pub long : longEnough sheet table work ≡ true
-  pub kept : moduleFaults mostOnChain hostList source ≡ []
-  pub words : l ≡ length (tableWords mostOnChain hostList source)
+  pub kept : faultsOf hostList source ≡ []
+  pub words : l ≡ length (tableOf hostList source)
 
 -- accepted: no fault, and the number that was given
 pub first-accepted : (n l : ℕ) (es : List LoadError) → first n es ≡ Accepted l → (es ≡ []) × (l ≡ n)
@@ -152,9 +152,9 @@ module _ (sheet hosts : List ℕ) (table work : ℕ) where
 
   -- a refusal after these is for the first fault
   pub refused-first : (m : Module) (hs : List HostFn) (e : LoadError) (es : List LoadError) → opening sheet hosts table work ≡ opened m hs
-      → moduleFaults mostOnChain hs m ≡ e ∷ es → load sheet hosts table work ≡ Refused e
+      → faultsOf hs m ≡ e ∷ es → load sheet hosts table work ≡ Refused e
   unfolding load answer first
-  refused-first m hs e es o q = ap answer o ∙ ap (first (length (tableWords mostOnChain hs m))) q
+  refused-first m hs e es o q = ap answer o ∙ ap (first (length (tableOf hs m))) q
 
   -- 0: accepted with l words
   pub accepted : (l : ℕ) → (load sheet hosts table work ≡ Accepted l) ↔ Links sheet hosts table work l
@@ -163,7 +163,7 @@ module _ (sheet hosts : List ℕ) (table work : ℕ) where
     λ q. go (opening sheet hosts table work) refl q,
     λ k.
         ap answer (opens (k .source) (k .hostList) (k .decodes) (k .lists) (k .long))
-        ∙ ap (first (length (tableWords mostOnChain (k .hostList) (k .source)))) (k .kept)
+        ∙ ap (first (length (tableOf (k .hostList) (k .source)))) (k .kept)
         ∙ unfold first in ap Accepted (sym (k .words)),
   )
     where
@@ -171,7 +171,7 @@ module _ (sheet hosts : List ℕ) (table work : ℕ) where
       go (refused k) e q = unfold answer in let z : _≡_ {A = ℕ} 0 1 = cc in absurd (omega arith)
       go (opened m hs) e q =
           module-opened (longEnough sheet table work) (decode sheet) m (decodeHosts hosts) hs e λ t d o.
-          let a = first-accepted (length (tableWords mostOnChain hs m)) l (moduleFaults mostOnChain hs m) q in
+          let a = first-accepted (length (tableOf hs m)) l (faultsOf hs m) q in
           record { source = m; hostList = hs; decodes = d; lists = o; long = t; kept = a .0; words = a .1 }
 
   -- a refusal is for 1, 23 or 24, or for the first fault of what was opened

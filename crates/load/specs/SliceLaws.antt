@@ -16,9 +16,10 @@ use Rattle.error.specs.Answer.{first}
 use Rattle.sheet.specs.Module.{Module}
 use Rattle.sheet.specs.Decode.{decode}
 use Rattle.host.specs.Host.{HostFn, decodeHosts}
-use Rattle.parents.specs.Parents.{mostOnChain}
-use Rattle.table.specs.Table.{tableWords}
-use Rattle.load.specs.Load.{moduleFaults, longEnough, Opened, refused, opened, opening, answer, load, linkedOver, tableThen, workThen, tableAfter, workAfter}
+use Rattle.sheet.specs.Editions.{mostOf}
+use Rattle.table.specs.Table.{tableOf}
+use Rattle.load.specs.Load.{faultsOf, longEnough, Opened, refused, opened, opening, answer, load, linkedOver, tableThen, workThen}
+use Rattle.load.specs.Load.{tableAfter, workAfter}
 use Rattle.load.specs.LoadLaws.{linked-fits}
 use Rattle.load.specs.KindLaws.{early, early-apart, opened-refused, refused-early, Links, opens, accepted}
 
@@ -28,9 +29,9 @@ use Rattle.load.specs.KindLaws.{early, early-apart, opened-refused, refu
 table-kept : (o : Opened) (table : List ℕ) (e : LoadError) → answer o ≡ Refused e → tableThen o table ≡ table
 unfolding answer tableThen
 table-kept (refused k) table e q = refl
-table-kept (opened m hs) table e q = go (moduleFaults mostOnChain hs m) q
+table-kept (opened m hs) table e q = go (faultsOf hs m) q
   where
-    go : (es : List LoadError) → first (length (tableWords mostOnChain hs m)) es ≡ Refused e → linkedOver es (tableWords mostOnChain hs m) table ≡ table
+    go : (es : List LoadError) → first (length (tableOf hs m)) es ≡ Refused e → linkedOver es (tableOf hs m) table ≡ table
     go [] q = unfold first in let z : _≡_ {A = ℕ} 0 1 = cc in absurd (omega arith)
     go (x ∷ es) q = unfold linkedOver in refl
 
@@ -60,22 +61,22 @@ module _ (sheet hosts table work : List ℕ) where
 
   -- after acceptance: the linked table, and the rest of what was there
   over : (l : ℕ) (k : Links sheet hosts (length table) (length work) l)
-      → tableAfter sheet hosts table work ≡ tableWords mostOnChain (k .hostList) (k .source) ++ drop (length (tableWords mostOnChain (k .hostList) (k .source))) table
+      → tableAfter sheet hosts table work ≡ tableOf (k .hostList) (k .source) ++ drop (length (tableOf (k .hostList) (k .source))) table
   unfolding tableAfter tableThen linkedOver
   over l k =
       ap (λ (o : Opened). tableThen o table) (opens sheet hosts (length table) (length work) (k .source) (k .hostList) (k .decodes) (k .lists) (k .long))
-      ∙ ap (λ (es : List LoadError). linkedOver es (tableWords mostOnChain (k .hostList) (k .source)) table) (k .kept)
+      ∙ ap (λ (es : List LoadError). linkedOver es (tableOf (k .hostList) (k .source)) table) (k .kept)
 
   -- acceptance with l words changes the first l only, to the linked table
   pub table-written : (l : ℕ) (m : Module) (hs : List HostFn) → load sheet hosts (length table) (length work) ≡ Accepted l
-      → decode sheet ≡ some m → decodeHosts hosts ≡ some hs → Written (tableWords mostOnChain hs m) table (tableAfter sheet hosts table work) l
+      → decode sheet ≡ some m → decodeHosts hosts ≡ some hs → Written (tableOf hs m) table (tableAfter sheet hosts table work) l
   table-written l m hs q d o =
       let k = (accepted sheet hosts (length table) (length work) l) .0 q in
       let a : k .source ≡ m = let e : some (k .source) ≡ some m = sym (k .decodes) ∙ d in cc in
       let b : k .hostList ≡ hs = let e : some (k .hostList) ≡ some hs = sym (k .lists) ∙ o in cc in
-      subst (λ (m : Module). Written (tableWords mostOnChain hs m) table (tableAfter sheet hosts table work) l) a
-      (subst (λ (hs : List HostFn). Written (tableWords mostOnChain hs (k .source)) table (tableAfter sheet hosts table work) l) b
-      (rw (over l k) (written-over (tableWords mostOnChain (k .hostList) (k .source)) table l (k .words))))
+      subst (λ (m : Module). Written (tableOf hs m) table (tableAfter sheet hosts table work) l) a
+      (subst (λ (hs : List HostFn). Written (tableOf hs (k .source)) table (tableAfter sheet hosts table work) l) b
+      (rw (over l k) (written-over (tableOf (k .hostList) (k .source)) table l (k .words))))
 
   -- the table keeps its length: of a sheet in bytes, the linked table fits
   pub table-length : allOf isByte sheet ≡ true → length (tableAfter sheet hosts table work) ≡ length table
@@ -85,7 +86,8 @@ module _ (sheet hosts table work : List ℕ) where
       go : (o : Opened) → opening sheet hosts (length table) (length work) ≡ o → length (tableThen o table) ≡ length table
       go (refused k) p = unfold tableThen in refl
       go (opened m hs) p =
-          unfold tableThen in over-length (moduleFaults mostOnChain hs m) (tableWords mostOnChain hs m) table (linked-fits mostOnChain sheet hosts (length table) (length work) m hs h p)
+          unfold tableThen in over-length (faultsOf hs m) (tableOf hs m) table
+          (linked-fits (mostOf m) sheet hosts (length table) (length work) m hs h p)
 
 -- ── work ──
 

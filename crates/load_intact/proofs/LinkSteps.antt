@@ -17,15 +17,16 @@ use Rattle.sheet.specs.Module.{Module}
 use Rattle.host.specs.Host.{HostFn}
 use Rattle.open_layout.specs.Opened.{moduleIn}
 use Rattle.types.specs.Types.{typesFaults}
-use Rattle.parents.specs.Parents.{mostOnChain, parentsFaults}
+use Rattle.sheet.specs.Editions.{mostOf}
+use Rattle.parents.specs.Parents.{parentsFaults}
 use Rattle.spans.specs.Spans.{walkFaults}
 use Rattle.consts.specs.Consts.{mostDeep, constsFaults}
 use Rattle.imports.specs.Imports.{importsFaults, globalsFaults}
 use Rattle.funcs.specs.Funcs.{funcsFaults}
 use Rattle.code.specs.Code.{codesFaults}
 use Rattle.hooks.specs.Hooks.{hooksFaults, startFaults, exportsFaults}
-use Rattle.table.specs.Table.{hookSection, canonSection, globalSection, referenceSection, spanSection, sections, joined, tableWords}
-use Rattle.load.specs.Load.{moduleFaults, linkedOver}
+use Rattle.table.specs.Table.{hookSection, canonSection, globalSection, referenceSection, sections, joined, tableWords, spansOf, tableOf}
+use Rattle.load.specs.Load.{moduleFaults, faultsOf, linkedOver}
 use Rattle.writing.specs.Writing.{written}
 use Rattle.open_sheet.specs.declared.Opened.{Opened}
 use Rattle.open_sheet.specs.Ready.{Ready}
@@ -36,20 +37,20 @@ use Rattle.load_intact.specs.Linking.{Fits, answered, tableLeft}
 
 -- ── refused ──
 
-module _ (hosts : List HostFn) (m : Module) {j : Judged} (e : j ≡ judgedOf (moduleFaults mostOnChain hosts m)) where
+module _ (hosts : List HostFn) (m : Module) {j : Judged} (e : j ≡ judgedOf (faultsOf hosts m)) where
   pub answer-refused : (b : LoadError) → j ≡ Judged.Refused b → Refused b ≡ answered hosts m
   unfolding answered
-  answer-refused b h = go (moduleFaults mostOnChain hosts m) (sym h ∙ e)
+  answer-refused b h = go (faultsOf hosts m) (sym h ∙ e)
     where
-      go : (fs : List LoadError) → Judged.Refused b ≡ judgedOf fs → Refused b ≡ first (length (tableWords mostOnChain hosts m)) fs
+      go : (fs : List LoadError) → Judged.Refused b ≡ judgedOf fs → Refused b ≡ first (length (tableOf hosts m)) fs
       go [] q = unfold judgedOf in let z : _≡_ {A = ℕ} 0 1 = cc in absurd (omega arith)
       go (f ∷ fs) q = unfold judgedOf first in let z : b ≡ f = cc in ap Refused z
 
   pub table-refused : (b : LoadError) (table : List ℕ) → j ≡ Judged.Refused b → table ≡ tableLeft hosts m table
   unfolding tableLeft
-  table-refused b table h = go (moduleFaults mostOnChain hosts m) (sym h ∙ e)
+  table-refused b table h = go (faultsOf hosts m) (sym h ∙ e)
     where
-      go : (fs : List LoadError) → Judged.Refused b ≡ judgedOf fs → table ≡ linkedOver fs (tableWords mostOnChain hosts m) table
+      go : (fs : List LoadError) → Judged.Refused b ≡ judgedOf fs → table ≡ linkedOver fs (tableOf hosts m) table
       go [] q = unfold judgedOf in let z : _≡_ {A = ℕ} 0 1 = cc in absurd (omega arith)
       go (f ∷ fs) q = unfold linkedOver in refl
 
@@ -78,28 +79,32 @@ empties t p w c i g f k h s x e =
     let e₁₀ = (append-empty t p) .0 e₉ in
     record { types = e₁₀ .0; parents = e₁₀ .1; imports = e₇ .1; globals = e₆ .1; funcs = e₅ .1; hooks = e₃ .1 }
 
-module _ (hosts : List HostFn) (m : Module) (e : moduleFaults mostOnChain hosts m ≡ []) where
-  rules-hold : Empties (typesFaults m) (parentsFaults mostOnChain m) (importsFaults hosts m) (globalsFaults m) (funcsFaults m) (hooksFaults m)
+module _ (hosts : List HostFn) (m : Module) (e : faultsOf hosts m ≡ []) where
+  rules-hold : Empties (typesFaults m) (parentsFaults (mostOf m) m)
+      (importsFaults hosts m) (globalsFaults m) (funcsFaults m) (hooksFaults m)
   unfolding moduleFaults
   rules-hold =
-      empties (typesFaults m) (parentsFaults mostOnChain m) (walkFaults mostOnChain m) (constsFaults mostDeep m) (importsFaults hosts m) (globalsFaults m) (funcsFaults m) (codesFaults m) (hooksFaults m) (startFaults m) (exportsFaults m) e
+      empties (typesFaults m) (parentsFaults (mostOf m) m) (walkFaults (mostOf m) m)
+      (constsFaults mostDeep m) (importsFaults hosts m) (globalsFaults m) (funcsFaults m)
+      (codesFaults m) (hooksFaults m) (startFaults m) (exportsFaults m) e
 
-  accepted : Accepted (length (tableWords mostOnChain hosts m)) ≡ answered hosts m
+  accepted : Accepted (length (tableOf hosts m)) ≡ answered hosts m
   unfolding answered first
-  accepted = sym (ap (first (length (tableWords mostOnChain hosts m))) e)
+  accepted = sym (ap (first (length (tableOf hosts m))) e)
 
-  linked : (table : List ℕ) → written table 0 (tableWords mostOnChain hosts m) ≡ tableLeft hosts m table
+  linked : (table : List ℕ) → written table 0 (tableOf hosts m) ≡ tableLeft hosts m table
   unfolding tableLeft linkedOver written
   linked table =
-      let xs = tableWords mostOnChain hosts m in
+      let xs = tableOf hosts m in
       let z : 0 + length xs ≡ length xs = omega arith in
       ap₂ (λ (a : List ℕ) (k : ℕ). a ++ drop k table) (take-length xs) z
       ∙ sym (ap (λ (fs : List LoadError). linkedOver fs xs table) e)
 
-module _ (ws v : List ℕ) (o : Opened) (hosts : List HostFn) {j : Judged} (passed : j ≡ Judged.Passed) (judged : j ≡ judgedOf (moduleFaults mostOnChain hosts (moduleIn ws)))
+module _ (ws v : List ℕ) (o : Opened) (hosts : List HostFn) {j : Judged}
+    (passed : j ≡ Judged.Passed) (judged : j ≡ judgedOf (faultsOf hosts (moduleIn ws)))
     (x : Ready ws v o) (l : LinkedIf j hosts ws v o) where
-  none : moduleFaults mostOnChain hosts (moduleIn ws) ≡ []
-  none = none-refused (moduleFaults mostOnChain hosts (moduleIn ws)) passed judged
+  none : faultsOf hosts (moduleIn ws) ≡ []
+  none = none-refused (faultsOf hosts (moduleIn ws)) passed judged
 
   pub clear : o .layout .words ≤ 520192 → Clear (moduleIn ws)
   clear few =
@@ -114,7 +119,7 @@ module _ (ws v : List ℕ) (o : Opened) (hosts : List HostFn) {j : Judged} (pass
       }
 
   -- with the places in work the table is the definition's
-  table-is : tableBy ws v o ≡ tableWords mostOnChain hosts (moduleIn ws)
+  table-is : tableBy ws v o ≡ tableOf hosts (moduleIn ws)
   unfolding tableBy tableWords sections
   table-is =
       ap
@@ -127,7 +132,7 @@ module _ (ws v : List ℕ) (o : Opened) (hosts : List HostFn) {j : Judged} (pass
       ∷ canonSection (moduleIn ws)
       ∷ globalSection (moduleIn ws)
       ∷ referenceSection (moduleIn ws)
-      ∷ spanSection mostOnChain (moduleIn ws)
+      ∷ spansOf (moduleIn ws)
       ∷ []))
       (linked-section hosts ws v o (l .entries passed))
 

@@ -6,17 +6,16 @@ use Rattle.error.specs.declared.Loaded.{Loaded}
 use Rattle.error.specs.Answer.{first}
 use Rattle.sheet.specs.Module.{Module}
 use Rattle.host.specs.Host.{HostFn}
-use Rattle.parents.specs.Parents.{mostOnChain}
-use Rattle.table.specs.Table.{tableWords}
-use Rattle.load.specs.Load.{moduleFaults, linkedOver}
+use Rattle.table.specs.Table.{tableOf}
+use Rattle.load.specs.Load.{faultsOf, linkedOver}
 
 -- the linked table has room, and its length is a word
 pub record Fits (hosts : List HostFn) (m : Module) (table : List ℕ) : Type 0 where
-  pub room : length (tableWords mostOnChain hosts m) ≤ length table
-  pub small : length (tableWords mostOnChain hosts m) < 4294967296
+  pub room : length (tableOf hosts m) ≤ length table
+  pub small : length (tableOf hosts m) < 4294967296
 
 unfoldable pub answered : List HostFn → Module → Loaded
-answered hosts m = first (length (tableWords mostOnChain hosts m)) (moduleFaults mostOnChain hosts m)
+answered hosts m = first (length (tableOf hosts m)) (faultsOf hosts m)
 
 unfoldable pub tableLeft : List HostFn → Module → List ℕ → List ℕ
-tableLeft hosts m table = linkedOver (moduleFaults mostOnChain hosts m) (tableWords mostOnChain hosts m) table
+tableLeft hosts m table = linkedOver (faultsOf hosts m) (tableOf hosts m) table

@@ -19,7 +19,7 @@ use Rattle.open_layout.specs.declared.Layout.{Layout}
 use Rattle.open_layout.specs.Layout.{layout, checkedOf}
 use Rattle.open_layout.specs.LayoutLaws.{Located}
 use Rattle.open_layout.specs.Opened.{moduleIn}
-use Rattle.parents.specs.Parents.{mostOnChain}
+use Rattle.sheet.specs.Editions.{mostOf}
 use Rattle.open_sheet.specs.declared.Opened.{Opened}
 use Rattle.table.specs.TableLaws.{table-few}
 use Rattle.load.specs.Load as load
@@ -42,14 +42,14 @@ fits sheet hosts work l n table h a =
     let m = moduleIn (firstWords sheet (l .words)) in
     let hs = hostsIn (firstWords hosts n) in
     record {
-      room = linked-fits mostOnChain sheet hosts (length table) work m hs h (a .opens);
+      room = linked-fits (mostOf m) sheet hosts (length table) work m hs h (a .opens);
       small =
           omega (
             arith,
             a .few,
             a .stated,
             decode-length sheet m h (opening-inv sheet hosts (length table) work m hs (a .opens) .holds),
-            table-few mostOnChain hs m,
+            table-few (mostOf m) hs m,
           );
     }
 

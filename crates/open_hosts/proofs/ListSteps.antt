@@ -25,7 +25,7 @@ use Rattle.reader.specs.Value.{Whole}
 use Rattle.reader.specs.ValueLaws.{got-whole, value-got, list-within}
 use Rattle.host.specs.declared.Listed.{Listed}
 use Rattle.host.specs.declared.Listed.the-variants.{Broken, Intact}
-use Rattle.host.specs.Host.{HostFn, hostFn, pairsDistinct, ifDistinct, decodeHosts}
+use Rattle.host.specs.Host.{HostFn, hostFn, pairsDistinct, ifDistinct, hostEdition, decodeHosts}
 use Rattle.host.specs.Listed.{listedFor, listedOf, hostsIn}
 use Rattle.host.specs.Seek.{listedIn}
 use Rattle.host.specs.ListedLaws.{listed-framed}
@@ -78,14 +78,17 @@ pub ruleset listing = (entries-stop, entries-whole, entries-elsewhere, pairs-onc
 -- ── the bytes ──
 
 module _ (bytes : List ℕ) where
-  pub frame-next : (n : ℕ) {r : Frame} {x : Listed} → r ≡ Words n → r ≡ frameOf (framed bytes) → x ≡ listedIn n (firstWords bytes n) → x ≡ listedOf bytes
+  pub frame-next : (n : ℕ) {r : Frame} {x : Listed} → r ≡ Words n → r ≡ frameOf (framed hostEdition bytes) →
+      x ≡ listedIn n (firstWords bytes n) → x ≡ listedOf bytes
   frame-next n e f k =
-      frame-found (framed bytes) e f λ ws q l.
-      k ∙ ap (λ m. listedIn m (firstWords bytes m)) l ∙ ap (listedIn (length ws)) (firstWords-framed bytes ws q) ∙ sym (listed-framed bytes ws q)
+      frame-found (framed hostEdition bytes) e f λ ws q l.
+      k ∙ ap (λ m. listedIn m (firstWords bytes m)) l ∙ ap (listedIn (length ws)) (firstWords-framed hostEdition bytes ws q)
+      ∙ sym (listed-framed bytes ws q)
 
-  pub frame-stop : {r : Frame} → r ≡ frame.Broken → r ≡ frameOf (framed bytes) → Broken ≡ listedOf bytes
+  pub frame-stop : {r : Frame} → r ≡ frame.Broken → r ≡ frameOf (framed hostEdition bytes) → Broken ≡ listedOf bytes
   unfolding listedOf decodeHosts content ifDistinct listedFor
-  frame-stop e f = sym (ap (λ o. listedFor (lengthWord (words bytes)) (ifDistinct (content (listOf hostFn) o))) (frame-none (framed bytes) e f))
+  frame-stop e f = sym (ap (λ o. listedFor (lengthWord (words bytes)) (ifDistinct (content (listOf hostFn) o)))
+      (frame-none (framed hostEdition bytes) e f))
 
 -- ── the index ──
 

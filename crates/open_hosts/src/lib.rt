@@ -57,7 +57,7 @@ pub fn check_hosts(hosts: &[u8], index: &mut [u32]) -> Listed
     ensures { λ r. ⌜ r ≡ listedOf (now (hosts .entry)) ⌝ }
     ensures { λ r. ⌜ SortedIf r (now (hosts .entry)) (now (index .exit)) ⌝ }
 {
-    match blocks::read_frame(hosts) {
+    match blocks::read_frame(hosts, 1) {
         Frame::Words(n) => check_entries(hosts, n, index),
         Frame::Broken => Listed::Broken,
     }

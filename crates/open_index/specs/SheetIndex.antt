@@ -22,7 +22,8 @@ use Rattle.reader.specs.ReadLaws.{content-inv, content-is}
 use Rattle.reader.specs.Step.{stepOf}
 use Rattle.reader.specs.StepLaws.{arrived}
 use Rattle.reader.specs.ValueLaws.{value-got}
-use Rattle.sheet.specs.Module.{TypeDef, Const, plain, Import, Func, Module}
+use Rattle.sheet.specs.Module.{TypeDef, Const, plain, Import, Func, Module, noModule}
+use Rattle.sheet.specs.Editions.{newestEdition}
 use Rattle.sheet.specs.Decode.{typeDef, constOf, importOf, globalOf, functionOf, hookOf, exportOf, moduleOf, decode}
 use Rattle.sheet.specs.Encode.{encodeType, encodeConst, encodeImport, encodeGlobal, encodeFunc, encodeHook, encodeExport}
 use Rattle.sheet.specs.Coded.{codedType, codedGlobal, codedFunc, codedHook, codedExport}
@@ -30,7 +31,7 @@ use Rattle.sheet.specs.TypeCodes.{type-codes, const-codes}
 use Rattle.sheet.specs.FuncCodes.{import-codes, global-codes, function-codes}
 use Rattle.sheet.specs.ModuleCodes.{hook-codes, export-codes}
 use Rattle.open_layout.specs.Layout.{posOf, layoutOf, layout, checkedOf}
-use Rattle.open_layout.specs.Opened.{noModule, moduleIn}
+use Rattle.open_layout.specs.Opened.{moduleIn}
 use Rattle.open_layout.specs.LayoutLaws.{layout-module, Located, located}
 use Rattle.open_layout.specs.declared.Layout.{Layout}
 use Rattle.open_layout.specs.declared.Checked.{Checked}
@@ -55,15 +56,20 @@ pub record Intact (bytes : List ℕ) (l : Layout) : Type 0 where
 pub intact : (bytes : List ℕ) (l : Layout) → layout bytes ≡ some l → Intact bytes l
 unfolding layout decode
 intact bytes l e =
-    content-inv layoutOf (framed bytes) l e λ ws e₁ e₂.
+    content-inv layoutOf (framed newestEdition bytes) l e λ ws e₁ e₂.
     arrived (moduleOf ws 2) {r = Next (length ws)} refl (sym (ended ws e₂) ∙ layout-module ws 2) λ m g.
     let x = located ws m l g e₂ in
-    let w : ws ≡ firstWords bytes (l .words) = sym (firstWords-framed bytes ws e₁) ∙ ap (firstWords bytes) (x .words) in
+    let w : ws ≡ firstWords bytes (l .words) = sym (firstWords-framed newestEdition bytes ws e₁) ∙ ap (firstWords bytes) (x .words) in
     let k : m ≡ moduleIn (firstWords bytes (l .words)) = module-is ws m g ∙ ap moduleIn w in
     record {
       holds = rw (e₁, ← k) (content-is moduleOf ws m g);
       located = subst (λ (v : List ℕ). Located v (moduleIn (firstWords bytes (l .words))) l) w (subst (λ (y : Module). Located ws y l) k x);
-      few = omega (arith, x .words, frame-few bytes {r = Words (length ws)} {n = length ws} refl (unfold frameOf in sym (ap frameOf e₁)));
+      few = omega (
+        arith,
+        x .words,
+        frame-few newestEdition bytes {r = Words (length ws)} {n = length ws} refl (unfold frameOf in
+            sym (ap frameOf e₁)),
+      );
     }
   where
     ended : (ws : List ℕ) → layoutOf ws 2 ≡ got l (length ws) → stepOf (layoutOf ws 2) ≡ Next (length ws)

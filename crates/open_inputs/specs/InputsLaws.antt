@@ -21,6 +21,7 @@ use Rattle.reader.specs.ReadLaws.{content-inv}
 use Rattle.reader.specs.Step.{stepOf}
 use Rattle.reader.specs.StepLaws.{arrived}
 use Rattle.sheet.specs.Module.{Module}
+use Rattle.sheet.specs.Editions.{newestEdition}
 use Rattle.sheet.specs.Decode.{moduleOf, decode}
 use Rattle.open_layout.specs.declared.Layout.{Layout}
 use Rattle.open_layout.specs.declared.Checked.{Checked}
@@ -52,9 +53,9 @@ pub record Admitted (sheet hosts : List ℕ) (table work : ℕ) (l : Layout) (n 
 words-stated : (b : List ℕ) (l : Layout) → layout b ≡ some l → l .words ≡ lengthWord (words b)
 unfolding layout
 words-stated b l e =
-    content-inv layoutOf (framed b) l e λ ws e₁ e₂.
+    content-inv layoutOf (framed newestEdition b) l e λ ws e₁ e₂.
     arrived (moduleOf ws 2) {r = Next (length ws)} refl (sym (ended ws e₂) ∙ layout-module ws 2) λ m g.
-    omega (arith, located ws m l g e₂ .words, framed-length b ws e₁ .0)
+    omega (arith, located ws m l g e₂ .words, framed-length newestEdition b ws e₁ .0)
   where
     ended : (ws : List ℕ) → layoutOf ws 2 ≡ got l (length ws) → stepOf (layoutOf ws 2) ≡ Next (length ws)
     ended ws e = unfold stepOf in ap stepOf e

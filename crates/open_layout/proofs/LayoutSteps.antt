@@ -25,6 +25,7 @@ use Rattle.sheet_reader.specs.declared.Taken.the-variants.{Word}
 use Rattle.sheet_reader.specs.declared.Taken.the-variants as taken
 use Rattle.sheet_reader.specs.Taken.{takenOf}
 use Rattle.sheet_reader.specs.TakenLaws.{word-taken, none-taken}
+use Rattle.sheet.specs.Editions.{newestEdition}
 use Rattle.sheet.specs.Decode.{typeDef, constOf, importOf, globalOf, functionOf, hookOf, exportOf}
 use Rattle.open_layout.specs.declared.Layout.{Layout}
 use Rattle.open_layout.specs.declared.Checked.{Checked}
@@ -148,16 +149,17 @@ module _ (n : ℕ) (ws : List ℕ) (p₁ p₂ p₃ p₄ p₅ p₆ : ℕ) where
 -- ── the bytes ──
 
 module _ (bytes : List ℕ) where
-  pub framed-next : (n : ℕ) {r : Frame} {x : Checked} → r ≡ Words n → r ≡ frameOf (framed bytes) → x ≡ firstParts n (firstWords bytes n) → x ≡ checkedOf (layout bytes)
+  pub framed-next : (n : ℕ) {r : Frame} {x : Checked} → r ≡ Words n → r ≡ frameOf (framed newestEdition bytes) →
+      x ≡ firstParts n (firstWords bytes n) → x ≡ checkedOf (layout bytes)
   unfolding layout content
   framed-next n e f k =
-      frame-found (framed bytes) e f λ ws q l.
+      frame-found (framed newestEdition bytes) e f λ ws q l.
       k
       ∙ ap (λ m. firstParts m (firstWords bytes m)) l
-      ∙ ap (firstParts (length ws)) (firstWords-framed bytes ws q)
+      ∙ ap (firstParts (length ws)) (firstWords-framed newestEdition bytes ws q)
       ∙ sym (steps ws (length ws) refl)
       ∙ sym (ap (λ o. checkedOf (content layoutOf o)) q)
 
-  pub framed-stop : {r : Frame} → r ≡ frame.Broken → r ≡ frameOf (framed bytes) → Broken ≡ checkedOf (layout bytes)
+  pub framed-stop : {r : Frame} → r ≡ frame.Broken → r ≡ frameOf (framed newestEdition bytes) → Broken ≡ checkedOf (layout bytes)
   unfolding layout content checkedOf
-  framed-stop e f = sym (ap (λ o. checkedOf (content layoutOf o)) (frame-none (framed bytes) e f))
+  framed-stop e f = sym (ap (λ o. checkedOf (content layoutOf o)) (frame-none (framed newestEdition bytes) e f))

@@ -6,6 +6,7 @@ use lib.ListN.{length}
 use Rattle.blocks.specs.Blocks.{framed}
 use Rattle.reader.specs.Reader.{Got, got, Reader, andThen, _>>=_, pure, word, listOf, content}
 use Rattle.reader.specs.Text.{string}
+use Rattle.sheet.specs.Editions.{newestEdition}
 use Rattle.sheet.specs.Decode.{typeDef, constOf, importOf, globalOf, functionOf, hookOf, exportOf}
 use Rattle.open_layout.specs.declared.Layout.{Layout}
 use Rattle.open_layout.specs.declared.Checked.{Checked}
@@ -36,7 +37,7 @@ layoutOf = do
 
 -- none where the layout is broken
 unfoldable pub layout : List ℕ → Option Layout
-layout bytes = content layoutOf (framed bytes)
+layout bytes = content layoutOf (framed newestEdition bytes)
 
 unfoldable pub checkedOf : Option Layout → Checked
 checkedOf none = Broken

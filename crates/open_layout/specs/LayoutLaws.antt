@@ -8,14 +8,15 @@ use mathlib.Core.Option.{Option, none, some}
 use native.Mathlib.Omega.{arith}
 use lib.Dec.{eqb}
 use lib.ListN.{length}
-use Rattle.blocks.specs.Blocks.{framed}
+use Rattle.blocks.specs.Blocks.{editionWord, framed}
 use Rattle.reader.specs.declared.Step.{Step}
-use Rattle.reader.specs.Reader.{Got, broken, got, andThen, word, listOf, whole, content}
+use Rattle.reader.specs.Reader.{Got, broken, got, andThen, word, listOf, stated, whole, content}
 use Rattle.reader.specs.Text.{string}
 use Rattle.reader.specs.ReaderLaws.{then-inv}
 use Rattle.reader.specs.Step.{stepOf}
 use Rattle.reader.specs.AlikeLaws.{ends-alike, pos-alike}
 use Rattle.sheet.specs.Module.{Module}
+use Rattle.sheet.specs.Editions.{newestEdition}
 use Rattle.sheet.specs.Decode.{typeDef, constOf, importOf, globalOf, functionOf, hookOf, exportOf, moduleOf, decode}
 use Rattle.open_layout.specs.declared.Layout.{Layout}
 use Rattle.open_layout.specs.Layout.{size, posOf, layoutOf, layout}
@@ -24,7 +25,7 @@ use Rattle.open_layout.specs.Layout.{size, posOf, layoutOf, layout}
 
 -- both end at one place, or both are broken
 pub layout-module : (ws : List ℕ) (p : ℕ) → stepOf (layoutOf ws p) ≡ stepOf (moduleOf ws p)
-unfolding layoutOf posOf size moduleOf
+unfolding layoutOf posOf size moduleOf stated
 layout-module ws p =
     pos-alike p (listOf string ws p) _ _ λ ss p₁.
     pos-alike p₁ (listOf typeDef ws p₁) _ _ λ ts p₂.
@@ -51,7 +52,7 @@ whole-alike n (got a p) (got b q) e k = let z : p ≡ q = cc in go a b (eqb p n)
 -- THE LAYOUT IS BROKEN EXACTLY WHERE NOTHING IS DECODED
 pub layout-broken : (bytes : List ℕ) → (layout bytes ≡ none) ↔ (decode bytes ≡ none)
 unfolding layout decode
-layout-broken bytes = go (framed bytes)
+layout-broken bytes = go (framed newestEdition bytes)
   where
     go : (o : Option (List ℕ)) → (content layoutOf o ≡ none) ↔ (content moduleOf o ≡ none)
     go none = unfold content in (λ e. refl, λ e. refl)
@@ -65,6 +66,7 @@ layout-broken bytes = go (framed bytes)
 
 -- a list of the module stands between its position and the next part's
 pub record Located (ws : List ℕ) (m : Module) (l : Layout) : Type 0 where
+  pub edition : m .edition ≡ editionWord ws
   pub words : length ws ≡ l .words
   pub strings : listOf string ws (l .strings) ≡ got (m .strings) (l .types)
   pub types : listOf typeDef ws (l .types) ≡ got (m .types) (l .consts)
@@ -77,7 +79,7 @@ pub record Located (ws : List ℕ) (m : Module) (l : Layout) : Type 0 where
   pub exports : listOf exportOf ws (l .exports) ≡ got (m .exports) (l .words)
 
 pub located : (ws : List ℕ) (m : Module) (l : Layout) → moduleOf ws 2 ≡ got m (length ws) → layoutOf ws 2 ≡ got l (length ws) → Located ws m l
-unfolding moduleOf layoutOf posOf size
+unfolding moduleOf layoutOf posOf size stated
 located ws m l e f =
     then-inv (listOf string ws 2) _ e λ ss p₁ e₁ e.
     then-inv (listOf typeDef ws p₁) _ e λ ts p₂ e₂ e.
@@ -88,13 +90,36 @@ located ws m l e f =
     then-inv (listOf hookOf ws p₆) _ e λ hs p₇ e₇ e.
     then-inv (word ws p₇) _ e λ st p₈ e₈ e.
     then-inv (listOf exportOf ws p₈) _ e λ es q e₉ e.
-    let z : record { strings = ss; types = ts; consts = cs; imports = is; globals = gs; funcs = fs; hooks = hs; start+ = st; exports = es } ≡ m = cc in
+    let z : record {
+      edition = editionWord ws;
+      strings = ss;
+      types = ts;
+      consts = cs;
+      imports = is;
+      globals = gs;
+      funcs = fs;
+      hooks = hs;
+      start+ = st;
+      exports = es;
+    } ≡ m = cc in
     let y : q ≡ length ws = cc in
     let k : record { words = length ws; strings = 2; types = p₁; consts = p₂; imports = p₃; globals = p₄; funcs = p₅; hooks = p₆; start = p₇; exports = p₈ } ≡ l =
     laid (rw (e₁, e₂, e₃, e₄, e₅, e₆, e₇, e₈, e₉) at f) in
     subst (λ (x : Module). Located ws x l) z
-    (subst (Located ws (record { strings = ss; types = ts; consts = cs; imports = is; globals = gs; funcs = fs; hooks = hs; start+ = st; exports = es })) k
+    (subst (Located ws (record {
+      edition = editionWord ws;
+      strings = ss;
+      types = ts;
+      consts = cs;
+      imports = is;
+      globals = gs;
+      funcs = fs;
+      hooks = hs;
+      start+ = st;
+      exports = es;
+    })) k
     (record {
+      edition = refl;
       words = refl;
       strings = e₁;
       types = e₂;

@@ -30,7 +30,7 @@ pub enum Checked {
 pub fn check_sheet(sheet: &[u8]) -> Checked
     ensures { λ r. ⌜ r ≡ checkedOf (layout (now (sheet .entry))) ⌝ }
 {
-    match blocks::read_frame(sheet) {
+    match blocks::read_frame(sheet, 2) {
         Frame::Words(n) => check_words(sheet, n),
         Frame::Broken => Checked::Broken,
     }

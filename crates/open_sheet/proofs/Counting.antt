@@ -1,13 +1,14 @@
--- How many members a part has: the count word where the layout says.
+-- What the sheet states: its edition in word 0, and how many members a part has, in the word where the layout says.
 use Prim.Native.Nat.{ℕ, _<_}
-use mathlib.Core.Path.{_≡_, ap}
+use mathlib.Core.Path.{_≡_, sym, ap, _∙_}
 use mathlib.Core.List.{List}
 use native.Mathlib.Omega.{arith}
 use lib.ListN.{getD}
-use Rattle.blocks.specs.Blocks.{words}
+use Rattle.blocks.specs.Blocks.{words, editionWord}
 use Rattle.blocks.specs.Frame.{firstWords}
+use Rattle.blocks.specs.FirstWords.{firstWords-at}
 use Rattle.reader.specs.Reader.{word, many}
-use Rattle.reader.specs.ReaderLaws.{then-inv}
+use Rattle.reader.specs.ReaderLaws.{then-inv, stands-in, word-codes}
 use Rattle.reader.specs.SizeLaws.{list-count}
 use Rattle.open_layout.specs.LayoutLaws.{Located}
 use Rattle.open_layout.specs.Opened.{moduleIn}
@@ -32,3 +33,12 @@ module _ (b : List ℕ) (l : Layout) (x : Located (firstWords b (l .words)) (mod
         list-count _ b n (l .globals) _ _ (x .globals) eg,
         list-count _ b n (l .funcs) _ _ (x .funcs) ef,
       )
+
+  -- there is a word 0, since start has one
+  pub stated : {e : ℕ} → e ≡ at 0 → e ≡ moduleIn (firstWords b (l .words)) .edition
+  unfolding editionWord
+  stated k =
+      let ws = firstWords b (l .words) in
+      let s = word-codes ws .found (l .start) _ (l .exports) (x .start) .stands in
+      let some : 0 < l .words = omega (arith, stands-in ws s, s .end, x .words) in
+      k ∙ sym (firstWords-at b (l .words) 0 some) ∙ sym (x .edition)

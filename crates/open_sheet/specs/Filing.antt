@@ -281,9 +281,10 @@ module _ (ws w v u z : List ℕ) (l : Layout) (x : Filed ws w l) {s t k s-at t-a
           ∙ f .same (c₂ + i) (λ p q. omega (arith, few-types))
           ∙ type-number ws (moduleIn ws) l (x .located) v u t-at a b c₂ (rw eit (types-edges ws v l filed-first)) n i h
 
-      pub ready : {xi : Index} {c : Counts} → xi ≡ indexOf ws l → c ≡ countsOf (moduleIn ws) → Ready ws z (record { layout = l; index = xi; counts = c })
-      ready ei ec = rw ei (record {
-        opens = record { located = x .located; counts = ec };
+      pub ready : {e : ℕ} {xi : Index} {c : Counts} → e ≡ moduleIn ws .edition → xi ≡ indexOf ws l → c ≡ countsOf (moduleIn ws) →
+          Ready ws z (record { edition = e; layout = l; index = xi; counts = c })
+      ready ee ei ec = rw ei (record {
+        opens = record { edition = ee; located = x .located; counts = ec };
         room = filed-third .room;
         edges = refl;
         inside = index-inside ws z l filed-third;
@@ -330,5 +331,9 @@ module _ (ws w : List ℕ) (l : Layout) (x : Filed ws w l) (small : l .words < 4
       marks-asked = (omega (arith, second .room, few-strings ws w v u u l x {k = l .words} small strings-are types-are strings-begin types-begin refl refl refl refl refl refl n₁), omega arith)
 
       pub ready-made : (z : List ℕ) → Frame (Off (3 * l .words) (3 * l .words + c .strings)) u z → ((i : ℕ) → i < c .strings → getD z (3 * l .words + i) 0 ≡ 0) →
-          (l ≡ l) × Ready ws z (record { layout = l; index = xi; counts = c })
-      ready-made z f k = (refl, ready ws w v u z l x {k = l .words} small strings-are types-are strings-begin types-begin refl refl refl refl refl refl n₁ n₂ f k ei ec)
+          {e : ℕ} → e ≡ moduleIn ws .edition → (l ≡ l) × Ready ws z (record { edition = e; layout = l; index = xi; counts = c })
+      ready-made z f k ee = (
+        refl,
+        ready ws w v u z l x {k = l .words} small strings-are types-are strings-begin types-begin
+            refl refl refl refl refl refl n₁ n₂ f k ee ei ec,
+      )

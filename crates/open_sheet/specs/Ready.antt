@@ -34,8 +34,9 @@ sheetWords b o = firstWords b (o .layout .words)
 abbrev pub moduleOf : List ℕ → Opened → Module
 moduleOf b o = moduleIn (firstWords b (o .layout .words))
 
--- each part stands where the layout says, and has so many members
+-- the edition, each part where the layout says, and so many members
 pub record Opens (ws : List ℕ) (o : Opened) : Type 0 where
+  pub edition : o .edition ≡ moduleIn ws .edition
   pub located : Located ws (moduleIn ws) (o .layout)
   pub counts : o .counts ≡ countsOf (moduleIn ws)
 

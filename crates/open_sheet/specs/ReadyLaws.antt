@@ -12,6 +12,7 @@ use Rattle.reader.specs.Value.{Whole, valueOf}
 use Rattle.reader.specs.ValueLaws.{got-whole, value-got}
 use Rattle.sheet.specs.Module.{TypeDef, coroutine, typeAt, Const, Import, Func, Module}
 use Rattle.sheet.specs.Decode.{typeDef, constOf, importOf, functionOf}
+use Rattle.sheet.specs.Editions.{mostOnChain, mostOf}
 use Rattle.open_layout.specs.LayoutLaws.{Located}
 use Rattle.open_layout.specs.Opened.{moduleIn}
 use Rattle.open_index.specs.declared.Index.{Index}
@@ -50,6 +51,12 @@ module _ (ws : List ℕ) (o : Opened) (x : Opens ws o) where
   pub count-funcs : o .counts .funcs ≡ length (moduleIn ws .funcs)
   unfolding countsOf
   count-funcs = ap (λ (c : Counts). c .funcs) (x .counts)
+
+-- ── the edition ──
+
+-- the limit that code found by the edition is the module's
+pub ready-most : (ws w : List ℕ) (o : Opened) → Ready ws w o → {most : ℕ} → most ≡ mostOnChain (o .edition) → most ≡ mostOf (moduleIn ws)
+ready-most ws w o x e = e ∙ ap mostOnChain (x .opens .edition)
 
 -- ── members by number ──
 

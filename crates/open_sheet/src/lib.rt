@@ -31,6 +31,7 @@ pub struct Counts {
 }
 
 pub struct Opened {
+    pub edition: u32,
     pub layout: Layout,
     pub index: Index,
     pub counts: Counts,
@@ -51,11 +52,12 @@ fn count_parts(sheet: &[u8], l: Layout) -> Counts
 }
 
 // Canonical numbers of strings and types in their regions, and marks of strings, all zero.
-fn number_parts(sheet: &[u8], l: Layout, x: Index, c: Counts, work: &mut [u32]) -> Opened
+fn number_parts(sheet: &[u8], e: u32, l: Layout, x: Index, c: Counts, work: &mut [u32]) -> Opened
     requires { ⌜ Filed (firstWords (now sheet) (l .words)) (now work) l ⌝ }
     requires { ⌜ l .words < 4294967296 ⌝ }
     requires { ⌜ x ≡ indexOf (firstWords (now sheet) (l .words)) l ⌝ }
     requires { ⌜ c ≡ countsOf (moduleIn (firstWords (now sheet) (l .words))) ⌝ }
+    requires { ⌜ e ≡ moduleIn (firstWords (now sheet) (l .words)) .edition ⌝ }
     ensures { λ r. ⌜ (r .layout ≡ l) × Ready (firstWords (now (sheet .entry)) (l .words)) (now (work .exit)) r ⌝ }
 {
     let n = l.words;
@@ -75,6 +77,7 @@ fn number_parts(sheet: &[u8], l: Layout, x: Index, c: Counts, work: &mut [u32]) 
     canonical(sheet, n, work, types, x.types, 4 * n, 5 * n, 2 * n, true);
     fill(work, 3 * n, strings, 0);
     Opened {
+        edition: e,
         layout: l,
         index: x,
         counts: c,
@@ -90,7 +93,7 @@ pub fn open_sheet(sheet: &[u8], l: Layout, work: &mut [u32]) -> Opened
 {
     let x = index_sheet(sheet, l, work);
     let c = count_parts(sheet, l);
-    number_parts(sheet, l, x, c, work)
+    number_parts(sheet, word(sheet, 0), l, x, c, work)
 }
 
 // Where a string, a type, a constant, an import, a function stands, by its number.

@@ -6,9 +6,9 @@ use Rattle.lists.specs.Lists.{concatMap, sum}
 use Rattle.error.specs.declared.Loaded.{Loaded}
 use Rattle.error.specs.declared.Loaded.the-variants.{Accepted, Refused}
 use Rattle.error.specs.Answer.{numbers}
-use Rattle.sheet.specs.Module.{TypeDef, Module}
+use Rattle.sheet.specs.Module.{Module, noModule}
 use Rattle.sheet.specs.Decode.{decode}
-use Rattle.parents.specs.Parents.{mostOnChain}
+use Rattle.sheet.specs.Editions.{mostOf}
 use Rattle.load.specs.Load.{load}
 use Rattle.families.specs.Families.{familySize, structCount, structNumbers}
 
@@ -20,44 +20,45 @@ programRoom = 16320
 unfoldable pub judged : List ℕ → List ℕ → Loaded
 judged hosts sheet = load sheet hosts programRoom programRoom
 
-unfoldable pub typesOf : Option Module → List TypeDef
-typesOf none = []
-typesOf (some m) = m .types
+-- the module of an accepted sheet; a refused one declares nothing
+unfoldable pub counting : Loaded → Option Module → Module
+counting (Accepted l) (some m) = m
+counting (Accepted l) none = noModule
+counting (Refused e) o = noModule
 
--- the declared types of an accepted sheet; a refused one has none
-unfoldable pub counting : Loaded → List TypeDef → List TypeDef
-counting (Accepted l) types = types
-counting (Refused e) types = []
-
-unfoldable pub countedTypes : List ℕ → List ℕ → List TypeDef
-countedTypes hosts sheet = counting (judged hosts sheet) (typesOf (decode sheet))
+unfoldable pub countedModule : List ℕ → List ℕ → Module
+countedModule hosts sheet = counting (judged hosts sheet) (decode sheet)
 
 -- ── lines ──
 
 -- a struct type, and how many types descend from it, itself included
-unfoldable pub familyLine : List TypeDef → ℕ → List ℕ
-familyLine types t = t ∷ familySize mostOnChain types t ∷ []
+unfoldable pub familyLine : Module → ℕ → List ℕ
+familyLine m t = t ∷ familySize (mostOf m) (m .types) t ∷ []
 
 -- a line for every struct type, by rising number
-unfoldable pub familyLines : List TypeDef → List (List ℕ)
-familyLines types = map (familyLine types) (structNumbers types)
+unfoldable pub familyLines : Module → List (List ℕ)
+familyLines m = map (familyLine m) (structNumbers (m .types))
 
 -- the six numbers and, if the sheet is accepted, its families
 unfoldable pub sheetLines : List ℕ → List ℕ → List (List ℕ)
-sheetLines hosts sheet = numbers (judged hosts sheet) ∷ familyLines (countedTypes hosts sheet)
+sheetLines hosts sheet = numbers (judged hosts sheet) ∷ familyLines (countedModule hosts sheet)
 
 -- ── totals ──
 
--- the sizes of all families of a sheet, one for each struct type
-unfoldable pub sizesTotal : List TypeDef → ℕ
-sizesTotal types = sum (familySize mostOnChain types) (structNumbers types)
+-- the struct types of a sheet, counted from the declarations
+unfoldable pub structsTotal : Module → ℕ
+structsTotal m = structCount (m .types)
 
--- of the types of all sheets: how many struct types, then the sizes
-unfoldable pub totals : List (List TypeDef) → List ℕ
-totals all = sum structCount all ∷ sum sizesTotal all ∷ []
+-- the sizes of all its families, one for each struct type
+unfoldable pub sizesTotal : Module → ℕ
+sizesTotal m = sum (familySize (mostOf m) (m .types)) (structNumbers (m .types))
+
+-- of all sheets: how many struct types, then the sizes
+unfoldable pub totals : List Module → List ℕ
+totals all = sum structsTotal all ∷ sum sizesTotal all ∷ []
 
 unfoldable pub totalLine : List ℕ → List (List ℕ) → List ℕ
-totalLine hosts sheets = totals (map (countedTypes hosts) sheets)
+totalLine hosts sheets = totals (map (countedModule hosts) sheets)
 
 -- the lines of each sheet in turn, and the totals last
 unfoldable pub report : List ℕ → List (List ℕ) → List (List ℕ)

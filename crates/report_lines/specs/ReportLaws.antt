@@ -1,18 +1,19 @@
--- What the report says, on types given by hand; a refused sheet has no types that count.
+-- What the report says, on types given by hand; a refused sheet declares nothing that counts.
 use Prim.Native.Nat.{ℕ}
 use mathlib.Core.Path.{_≡_, refl, ap}
 use mathlib.Core.List.{List, [], _∷_}
 use Rattle.error.specs.declared.LoadError.{LoadError}
 use Rattle.error.specs.declared.Loaded.the-variants.{Refused}
-use Rattle.sheet.specs.Module.{TypeDef}
+use Rattle.sheet.specs.Module.{TypeDef, Module, noModule}
+use Rattle.sheet.specs.Editions.{mostOnChain}
 use Rattle.sheet.specs.Decode.{decode}
 use Rattle.families.specs.Families.{structCount, structNumbers}
 use Rattle.families.specs.Cases.{child, sample, computed}
-use Rattle.report_lines.specs.Report.{judged, typesOf, counting, countedTypes, familyLine, familyLines, sizesTotal, totals}
+use Rattle.report_lines.specs.Report.{judged, counting, countedModule, familyLine, familyLines, structsTotal, sizesTotal, totals}
 
-pub refused-none : (hosts sheet : List ℕ) (e : LoadError) → judged hosts sheet ≡ Refused e → countedTypes hosts sheet ≡ []
-unfolding countedTypes counting
-refused-none hosts sheet e q = ap (λ r. counting r (typesOf (decode sheet))) q
+pub refused-none : (hosts sheet : List ℕ) (e : LoadError) → judged hosts sheet ≡ Refused e → countedModule hosts sheet ≡ noModule
+unfolding countedModule counting
+refused-none hosts sheet e q = ap (λ r. counting r (decode sheet)) q
 
 -- ── the types of two sheets, by hand ──
 
@@ -20,10 +21,25 @@ refused-none hosts sheet e q = ap (λ r. counting r (typesOf (decode sheet))) q
 abbrev pair : List TypeDef
 pair = child 0 ∷ child 1 ∷ []
 
-lines : familyLines sample ≡ (0 ∷ 1 ∷ []) ∷ (1 ∷ 1 ∷ []) ∷ (2 ∷ 3 ∷ []) ∷ (4 ∷ 1 ∷ []) ∷ []
-unfolding familyLines familyLine structNumbers computed
+abbrev declaring : ℕ → List TypeDef → Module
+declaring e ts =
+    record {
+      edition = e;
+      strings = [];
+      types = ts;
+      consts = [];
+      imports = [];
+      globals = [];
+      funcs = [];
+      hooks = [];
+      start+ = 0;
+      exports = [];
+    }
+
+lines : familyLines (declaring 1 sample) ≡ (0 ∷ 1 ∷ []) ∷ (1 ∷ 1 ∷ []) ∷ (2 ∷ 3 ∷ []) ∷ (4 ∷ 1 ∷ []) ∷ []
+unfolding familyLines familyLine structNumbers mostOnChain computed
 lines = refl
 
-sums : totals (sample ∷ pair ∷ []) ≡ 6 ∷ 9 ∷ []
-unfolding totals sizesTotal structCount structNumbers computed
+sums : totals (declaring 1 sample ∷ declaring 2 pair ∷ []) ≡ 6 ∷ 9 ∷ []
+unfolding totals structsTotal sizesTotal structCount structNumbers mostOnChain computed
 sums = refl

@@ -14,19 +14,20 @@ use Rattle.sheet.specs.Module.{Func, Module}
 use Rattle.host.specs.Host.{HostFn}
 use Rattle.open_layout.specs.Opened.{moduleIn}
 use Rattle.types.specs.Types.{typesFaults}
-use Rattle.parents.specs.Parents.{mostOnChain, parentsFaults}
+use Rattle.sheet.specs.Editions.{mostOnChain, mostOf}
+use Rattle.parents.specs.Parents.{parentsFaults}
 use Rattle.consts.specs.Consts.{mostDeep, constsFaults}
 use Rattle.imports.specs.Imports.{importsFaults, globalsFaults}
 use Rattle.funcs.specs.Funcs.{funcsFaults}
 use Rattle.code.specs.Callee.{noFunc, funcAt}
 use Rattle.code.specs.Code.{codesFaults}
 use Rattle.hooks.specs.Hooks.{hooksFaults, startFaults, exportsFaults}
-use Rattle.load.specs.Load.{moduleFaults}
+use Rattle.load.specs.Load.{faultsOf}
 use Rattle.region.specs.Region.{wordAt, Off, Frame}
 use Rattle.region.specs.RegionLaws.{frame-then}
 use Rattle.open_sheet.specs.declared.Opened.{Opened}
 use Rattle.open_sheet.specs.Ready.{Opens, Ready, Kept, Captured}
-use Rattle.open_sheet.specs.ReadyLaws.{count-funcs, funcs-inside, ready-below, ready-kept, kept-same}
+use Rattle.open_sheet.specs.ReadyLaws.{count-funcs, funcs-inside, ready-below, ready-kept, ready-most, kept-same}
 use Rattle.rule_bodies.specs.Bodies.{Countable}
 use Rattle.rule7_code.specs.Sweep.{Above}
 use Rattle.rule5_imports.specs.Links.{HostEntries, LinkedIf}
@@ -47,18 +48,25 @@ module _ (a b c : List LoadError) where
 
 -- ── rules 2 to 4 ──
 
+-- under the limit of the edition
+pub chains-judged : (ws w : List ℕ) (o : Opened) → Ready ws w o → {most : ℕ} {r : Judged} → most ≡ mostOnChain (o .edition)
+    → r ≡ judgedOf (parentsFaults most (moduleIn ws)) → r ≡ judgedOf (parentsFaults (mostOf (moduleIn ws)) (moduleIn ws))
+chains-judged ws w o x e j = j ∙ ap (λ n. judgedOf (parentsFaults n (moduleIn ws))) (ready-most ws w o x e)
+
 module _ (m : Module) where
   pub types-stop : {r : Judged} (e : LoadError) → r ≡ Refused e → r ≡ judgedOf (typesFaults m) → Refused e ≡ judgedOf (frontFaults m)
   unfolding frontFaults
-  types-stop = first-stop (typesFaults m) (parentsFaults 256 m) (constsFaults 64 m)
+  types-stop = first-stop (typesFaults m) (parentsFaults (mostOf m) m) (constsFaults 64 m)
 
-  pub parents-stop : {r s : Judged} (e : LoadError) → r ≡ Passed → r ≡ judgedOf (typesFaults m) → s ≡ Refused e → s ≡ judgedOf (parentsFaults 256 m) → Refused e ≡ judgedOf (frontFaults m)
+  pub parents-stop : {r s : Judged} (e : LoadError) → r ≡ Passed → r ≡ judgedOf (typesFaults m) → s ≡ Refused e →
+      s ≡ judgedOf (parentsFaults (mostOf m) m) → Refused e ≡ judgedOf (frontFaults m)
   unfolding frontFaults
-  parents-stop = second-stop (typesFaults m) (parentsFaults 256 m) (constsFaults 64 m)
+  parents-stop = second-stop (typesFaults m) (parentsFaults (mostOf m) m) (constsFaults 64 m)
 
-  pub consts-last : {r s x : Judged} → r ≡ Passed → r ≡ judgedOf (typesFaults m) → s ≡ Passed → s ≡ judgedOf (parentsFaults 256 m) → x ≡ judgedOf (constsFaults 64 m) → x ≡ judgedOf (frontFaults m)
+  pub consts-last : {r s x : Judged} → r ≡ Passed → r ≡ judgedOf (typesFaults m) → s ≡ Passed →
+      s ≡ judgedOf (parentsFaults (mostOf m) m) → x ≡ judgedOf (constsFaults 64 m) → x ≡ judgedOf (frontFaults m)
   unfolding frontFaults
-  consts-last = third-last (typesFaults m) (parentsFaults 256 m) (constsFaults 64 m)
+  consts-last = third-last (typesFaults m) (parentsFaults (mostOf m) m) (constsFaults 64 m)
 
 pub ruleset front-order = (types-stop, parents-stop, consts-last, kept-same)
 
@@ -164,13 +172,15 @@ module _ (hosts : List HostFn) (m : Module) where
   abbrev later : List LoadError
   later = recordFaults hosts m ++ bodyFaults m
 
-  pub front-stop : {r : Judged} (e : LoadError) → r ≡ Refused e → r ≡ judgedOf (frontFaults m) → Refused e ≡ judgedOf (moduleFaults 256 hosts m)
+  pub front-stop : {r : Judged} (e : LoadError) → r ≡ Refused e → r ≡ judgedOf (frontFaults m) → Refused e ≡ judgedOf (faultsOf hosts m)
   front-stop e h k = judged-stop (frontFaults m) later e h k ∙ sym (in-groups hosts m)
 
-  pub records-stop : {r s : Judged} (e : LoadError) → r ≡ Passed → r ≡ judgedOf (frontFaults m) → s ≡ Refused e → s ≡ judgedOf (recordFaults hosts m) → Refused e ≡ judgedOf (moduleFaults 256 hosts m)
+  pub records-stop : {r s : Judged} (e : LoadError) → r ≡ Passed → r ≡ judgedOf (frontFaults m) → s ≡ Refused e →
+      s ≡ judgedOf (recordFaults hosts m) → Refused e ≡ judgedOf (faultsOf hosts m)
   records-stop e h k i j = judged-then (frontFaults m) later h k (judged-stop (recordFaults hosts m) (bodyFaults m) e i j) ∙ sym (in-groups hosts m)
 
-  pub bodies-last : {r s x : Judged} → r ≡ Passed → r ≡ judgedOf (frontFaults m) → s ≡ Passed → s ≡ judgedOf (recordFaults hosts m) → x ≡ judgedOf (bodyFaults m) → x ≡ judgedOf (moduleFaults 256 hosts m)
+  pub bodies-last : {r s x : Judged} → r ≡ Passed → r ≡ judgedOf (frontFaults m) → s ≡ Passed → s ≡ judgedOf (recordFaults hosts m) →
+      x ≡ judgedOf (bodyFaults m) → x ≡ judgedOf (faultsOf hosts m)
   bodies-last h k i j l = judged-then (frontFaults m) later h k (judged-then (recordFaults hosts m) (bodyFaults m) i j l) ∙ sym (in-groups hosts m)
 
 pub ruleset all-order = (front-stop, records-stop, bodies-last, front-types, linked-refused, links-ready, links-linked)

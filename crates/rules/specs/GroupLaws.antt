@@ -14,14 +14,16 @@ use Rattle.sheet.specs.Module.{Module}
 use Rattle.host.specs.Host.{HostFn}
 use Rattle.open_layout.specs.Opened.{moduleIn}
 use Rattle.types.specs.Types.{typesFaults}
-use Rattle.parents.specs.Parents.{mostOnChain, parentsFaults}
+use Rattle.sheet.specs.Editions.{mostOf}
+use Rattle.sheet.specs.EditionLaws.{most-from-one}
+use Rattle.parents.specs.Parents.{parentsFaults}
 use Rattle.spans.specs.Spans.{walkFaults}
 use Rattle.consts.specs.Consts.{mostDeep, constsFaults}
 use Rattle.imports.specs.Imports.{importsFaults, globalsFaults}
 use Rattle.funcs.specs.Funcs.{funcsFaults}
 use Rattle.code.specs.Code.{codesFaults}
 use Rattle.hooks.specs.Hooks.{hooksFaults, startFaults, exportsFaults}
-use Rattle.load.specs.Load.{moduleFaults}
+use Rattle.load.specs.Load.{moduleFaults, faultsOf}
 use Rattle.law_forest.specs.Accepted.{walk-complete}
 use Rattle.region.specs.Region.{Frame}
 use Rattle.open_sheet.specs.declared.Opened.{Opened}
@@ -43,16 +45,16 @@ module _ (hosts : List HostFn) (m : Module) where
   T = typesFaults m
 
   abbrev P : List LoadError
-  P = parentsFaults mostOnChain m
+  P = parentsFaults (mostOf m) m
 
   abbrev W : List LoadError
-  W = walkFaults mostOnChain m
+  W = walkFaults (mostOf m) m
 
   abbrev C : List LoadError
   C = constsFaults mostDeep m
 
   walk-empty : T ++ P ≡ [] → W ≡ []
-  walk-empty e = walk-complete mostOnChain (omega arith) m ((append-empty T P) .0 e .1)
+  walk-empty e = walk-complete (mostOf m) (most-from-one (m .edition)) m ((append-empty T P) .0 e .1)
 
   -- eleven lists, the third apart
   regroup : (a w c i g f k h s e : List LoadError) → a ++ w ++ c ++ i ++ g ++ f ++ k ++ h ++ s ++ e ≡ a ++ w ++ (c ++ ((i ++ g ++ f) ++ (k ++ (h ++ s ++ e))))
@@ -61,7 +63,7 @@ module _ (hosts : List HostFn) (m : Module) where
   grouped : (a c i g f k h s e : List LoadError) → a ++ (c ++ ((i ++ g ++ f) ++ (k ++ (h ++ s ++ e)))) ≡ (a ++ c) ++ ((i ++ g ++ f) ++ (k ++ (h ++ s ++ e)))
   grouped a c i g f k h s e = simp append-assoc
 
-  pub in-groups : judgedOf (moduleFaults mostOnChain hosts m) ≡ judgedOf (frontFaults m ++ (recordFaults hosts m ++ bodyFaults m))
+  pub in-groups : judgedOf (faultsOf hosts m) ≡ judgedOf (frontFaults m ++ (recordFaults hosts m ++ bodyFaults m))
   unfolding moduleFaults frontFaults recordFaults bodyFaults endFaults
   in-groups =
       let I = importsFaults hosts m in
@@ -80,7 +82,7 @@ pub front-types : (m : Module) {r : Judged} → r ≡ Passed → r ≡ judgedOf 
 unfolding frontFaults
 front-types m e k =
     let T = typesFaults m in
-    let P = parentsFaults mostOnChain m in
+    let P = parentsFaults (mostOf m) m in
     let C = constsFaults mostDeep m in
     (append-empty T P) .0 ((append-empty (T ++ P) C) .0 (none-refused (T ++ P ++ C) e k) .0) .0
 

@@ -5,7 +5,8 @@ use Rattle.error.specs.declared.LoadError.{LoadError}
 use Rattle.sheet.specs.Module.{Module}
 use Rattle.host.specs.Host.{HostFn}
 use Rattle.types.specs.Types.{typesFaults}
-use Rattle.parents.specs.Parents.{mostOnChain, parentsFaults}
+use Rattle.sheet.specs.Editions.{mostOf}
+use Rattle.parents.specs.Parents.{parentsFaults}
 use Rattle.consts.specs.Consts.{mostDeep, constsFaults}
 use Rattle.imports.specs.Imports.{importsFaults, globalsFaults}
 use Rattle.funcs.specs.Funcs.{funcsFaults}
@@ -16,7 +17,7 @@ use Rattle.open_sheet.specs.declared.Opened.{Opened}
 
 -- types, parents, constants
 unfoldable pub frontFaults : Module → List LoadError
-frontFaults m = typesFaults m ++ parentsFaults mostOnChain m ++ constsFaults mostDeep m
+frontFaults m = typesFaults m ++ parentsFaults (mostOf m) m ++ constsFaults mostDeep m
 
 -- imports, globals, functions' records
 unfoldable pub recordFaults : List HostFn → Module → List LoadError

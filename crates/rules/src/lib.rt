@@ -8,9 +8,10 @@ ghost use Rattle.host.specs.Listed.{hostsIn};
 ghost use Rattle.open_hosts.specs.Sorted.{SortedHosts};
 ghost use Rattle.open_sheet.specs.Ready.{Ready, Captured, Kept, sheetWords, moduleOf};
 ghost use Rattle.types.specs.Types.{typesFaults};
-ghost use Rattle.parents.specs.Parents.{mostOnChain};
+ghost use Rattle.sheet.specs.Editions.{mostOf};
+ghost use Rattle.parents.specs.Parents.{parentsFaults};
 ghost use Rattle.rule5_imports.specs.Links.{LinkedIf};
-ghost use Rattle.load.specs.Load.{moduleFaults};
+ghost use Rattle.load.specs.Load.{faultsOf};
 ghost use Rattle.rules.specs.Groups.{frontFaults, recordFaults, bodyFaults, endFaults, LinksKept};
 use error::Judged;
 use open_sheet::Opened;
@@ -25,8 +26,18 @@ use rule7_code::check_codes;
 use rule8_ends::check_exports;
 use rule8_ends::check_start;
 use rule8_hooks::check_hooks;
+use sheet::most_on_chain;
 
-// Types, parents with at most 256 on a chain, constants at most 64 deep; the first fault.
+// Parents, with at most as many on a chain as the edition allows.
+fn check_chains(sheet: &[u8], work: &mut [u32], o: Opened) -> Judged
+    requires { ⌜ Ready (sheetWords (now sheet) o) (now work) o ⌝ }
+    ensures { λ r. ⌜ r ≡ judgedOf (parentsFaults (mostOf (moduleOf (now (sheet .entry)) o)) (moduleOf (now (sheet .entry)) o)) ⌝ }
+    ensures { λ r. ⌜ Kept o (now (work .entry)) (now (work .exit)) ⌝ }
+{
+    check_parents(sheet, work, o, most_on_chain(o.edition))
+}
+
+// Types, parents, constants at most 64 deep; the first fault.
 fn check_front(sheet: &[u8], work: &mut [u32], o: Opened) -> Judged
     requires { ⌜ Ready (sheetWords (now sheet) o) (now work) o ⌝ }
     ensures { λ r. ⌜ r ≡ judgedOf (frontFaults (moduleOf (now (sheet .entry)) o)) ⌝ }
@@ -38,7 +49,7 @@ fn check_front(sheet: &[u8], work: &mut [u32], o: Opened) -> Judged
             return Judged::Refused(e);
         }
     }
-    match check_parents(sheet, work, o, 256) {
+    match check_chains(sheet, work, o) {
         Judged::Passed => {}
         Judged::Refused(e) => {
             return Judged::Refused(e);
@@ -128,7 +139,7 @@ pub fn check_module(
     requires { ⌜ Ready (sheetWords (now sheet) o) (now work) o ⌝ }
     requires { ⌜ o .layout .words ≤ 520192 ⌝ }
     requires { ⌜ SortedHosts (firstWords (now hosts) n) (now index) ⌝ }
-    ensures { λ r. ⌜ r ≡ judgedOf (moduleFaults mostOnChain (hostsIn (firstWords (now (hosts .entry)) n)) (moduleOf (now (sheet .entry)) o)) ⌝ }
+    ensures { λ r. ⌜ r ≡ judgedOf (faultsOf (hostsIn (firstWords (now (hosts .entry)) n)) (moduleOf (now (sheet .entry)) o)) ⌝ }
     ensures { λ r. ⌜ Ready (sheetWords (now (sheet .entry)) o) (now (work .exit)) o ⌝ }
     ensures { λ r. ⌜ LinkedIf r (hostsIn (firstWords (now (hosts .entry)) n)) (sheetWords (now (sheet .entry)) o) (now (work .exit)) o ⌝ }
 {

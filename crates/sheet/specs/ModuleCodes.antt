@@ -1,16 +1,18 @@
 -- Each reader of a sheet with its encoder: hooks, exports, the nine parts, the module.
 use Prim.Native.Nat.{ℕ, _+_, _-_}
-use mathlib.Core.Path.{_≡_, refl}
+use mathlib.Core.Path.{_≡_, refl, ap, _∙_}
 use mathlib.Core.List.{List, [], _++_, append-assoc}
 use mathlib.Core.Bool.{true, _&&_}
-use lib.Dec.{ltb}
+use lib.Dec.{eqb, ltb}
+use borrow.Author.Tests.{eqb-true, eq-eqb}
 use Rattle.lists.specs.Lists.{allOf}
 use Rattle.lists.specs.ListLaws.{both, and-first, and-second}
+use Rattle.blocks.specs.Blocks.{editionWord}
 use Rattle.blocks.specs.ByteLaws.{isWord}
 use Rattle.utf8.specs.Utf8.{wellFormed}
 use Rattle.reader.specs.Text.{string, encodeString}
 use Rattle.reader.specs.TextLaws.{string-codes}
-use Rattle.reader.specs.Reader.{listOf, encodeList}
+use Rattle.reader.specs.Reader.{got, stated, listOf, encodeList}
 use Rattle.reader.specs.ReaderLaws.{join, Codes, free, seq, next, landed, final, word-codes, code-codes, list-codes, free-codes}
 use Rattle.sheet.specs.Module.{TypeDef}
 use Rattle.sheet.specs.Decode.{hookCount, typeDef, constOf, importOf, globalOf, functionOf, hookOf, exportOf, moduleOf}
@@ -81,8 +83,9 @@ module _ (ws : List ℕ) (words : allOf isWord ws ≡ true) where
   pub strings-codes : Codes ws (listOf string) (encodeList encodeString) (allOf wellFormed)
   strings-codes = list-codes ws string encodeString wellFormed (string-codes ws words)
 
-  pub module-codes : Codes ws moduleOf encode codedModule
-  unfolding moduleOf encode codedModule
+  -- the edition is what the words state
+  pub module-codes : Codes ws moduleOf encode (λ m. eqb (editionWord ws) (m .edition) && codedModule m)
+  unfolding moduleOf encode codedModule stated
   module-codes =
       record {
         found = λ p a q e.
@@ -97,7 +100,7 @@ module _ (ws : List ℕ) (words : allOf isWord ws ≡ true) where
             seq ws (exports-codes ws) p₈ _ e λ es p₉ s₉ o₉ e.
             landed e
             (join ws (join ws (join ws (join ws (join ws (join ws (join ws s₁ s₂) s₃) s₄) s₅) s₆) s₇) (join ws s₈ s₉))
-            (both (both (both (both (both o₁ o₂) o₅) o₆) o₇) o₉);
+            (both (eq-eqb (editionWord ws) (editionWord ws) refl) (both (both (both (both (both o₁ o₂) o₅) o₆) o₇) o₉));
         reads = λ p a q w.
             let b₁ = allOf wellFormed (a .strings) in
             let b₂ = allOf codedType (a .types) in
@@ -105,11 +108,15 @@ module _ (ws : List ℕ) (words : allOf isWord ws ≡ true) where
             let b₄ = allOf codedFunc (a .funcs) in
             let b₅ = allOf codedHook (a .hooks) in
             let b₆ = allOf codedExport (a .exports) in
-            let o₅ = and-first (b₁ && b₂ && b₃ && b₄ && b₅) b₆ (w .fine) in
+            let b = eqb (editionWord ws) (a .edition) in
+            let fine = and-second b (b₁ && b₂ && b₃ && b₄ && b₅ && b₆) (w .fine) in
+            let is-edition : editionWord ws ≡ a .edition = eqb-true (editionWord ws) (a .edition) (and-first b (b₁ && b₂ && b₃ && b₄
+            && b₅ && b₆) (w .fine)) in
+            let o₅ = and-first (b₁ && b₂ && b₃ && b₄ && b₅) b₆ fine in
             let o₄ = and-first (b₁ && b₂ && b₃ && b₄) b₅ o₅ in
             let o₃ = and-first (b₁ && b₂ && b₃) b₄ o₄ in
             let o₂ = and-first (b₁ && b₂) b₃ o₃ in
-            next ws strings-codes (a .strings) _ _ (and-first b₁ b₂ o₂) (simp append-assoc at (w .stands)) λ p₁ s.
+            (next ws strings-codes (a .strings) _ _ (and-first b₁ b₂ o₂) (simp append-assoc at (w .stands)) λ p₁ s.
             next ws (types-codes ws) (a .types) _ _ (and-second b₁ b₂ o₂) s λ p₂ s.
             next ws (consts-codes ws) (a .consts) _ _ refl s λ p₃ s.
             next ws (imports-codes ws) (a .imports) _ _ refl s λ p₄ s.
@@ -117,5 +124,17 @@ module _ (ws : List ℕ) (words : allOf isWord ws ≡ true) where
             next ws (functions-codes ws) (a .funcs) _ _ (and-second (b₁ && b₂ && b₃) b₄ o₄) s λ p₆ s.
             next ws (hooks-codes ws) (a .hooks) _ _ (and-second (b₁ && b₂ && b₃ && b₄) b₅ o₅) s λ p₇ s.
             next ws (word-codes ws) (a .start+) _ _ refl s λ p₈ s.
-            final ws (exports-codes ws) (a .exports) _ (and-second (b₁ && b₂ && b₃ && b₄ && b₅) b₆ (w .fine)) s;
+            final ws (exports-codes ws) (a .exports) _ (and-second (b₁ && b₂ && b₃ && b₄ && b₅) b₆ fine) s)
+            ∙ ap (λ e. got (record {
+              edition = e;
+              strings = a .strings;
+              types = a .types;
+              consts = a .consts;
+              imports = a .imports;
+              globals = a .globals;
+              funcs = a .funcs;
+              hooks = a .hooks;
+              start+ = a .start+;
+              exports = a .exports;
+            }) q) is-edition;
       }

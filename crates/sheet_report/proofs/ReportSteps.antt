@@ -17,11 +17,11 @@ use Rattle.blocks.specs.Blocks.{words, lengthWord}
 use Rattle.error.specs.declared.LoadError.{LoadError}
 use Rattle.error.specs.declared.Loaded.{Loaded}
 use Rattle.error.specs.declared.Loaded.the-variants.{Accepted, Refused}
-use Rattle.sheet.specs.Module.{Module, TypeDef, coroutine, typeAt, isStruct}
+use Rattle.sheet.specs.Module.{Module, TypeDef, noModule, coroutine, typeAt, isStruct}
 use Rattle.sheet.specs.Decode.{decode}
 use Rattle.sheet.specs.DecodedLaws.{decoded-within}
 use Rattle.sheet.specs.TypeLaws.{struct-known}
-use Rattle.parents.specs.Parents.{mostOnChain}
+use Rattle.sheet.specs.Editions.{mostOf}
 use Rattle.writing.specs.Writing.{written}
 use Rattle.descends.specs.declared.FamilySize.the-variants.{Size}
 use Rattle.descends.specs.Sizes.{sizeIn}
@@ -29,15 +29,14 @@ use Rattle.load.specs.Load.{needed, fits, enough, longEnough, load, tableAfter,
 use Rattle.load.specs.KindLaws.{Links, accepted}
 use Rattle.families.specs.Families.{familySize, structCount, structNumbers}
 use Rattle.families.specs.Counted.{countedOf, structsIn}
-use Rattle.law_forest.specs.Once.{ChainRule}
 use Rattle.law_families.specs.FamilyLaws.{size-some, size-none}
 use Rattle.report_lines.specs.declared.SheetReport.{SheetReport}
-use Rattle.report_lines.specs.Report.{judged, typesOf, counting, countedTypes, familyLine, sizesTotal}
+use Rattle.report_lines.specs.Report.{judged, counting, countedModule, familyLine, structsTotal, sizesTotal}
 use Rattle.report_lines.specs.Reported.{Reports}
 use Rattle.report_lines.specs.ReportLaws.{refused-none}
 use Rattle.calls.specs.Calls.{Loads, Begins}
 use Rattle.family_calls.specs.FamilyCalls.{SizesRight}
-use Rattle.family_calls.specs.FamilyCallLaws.{counted-rule, sizes-right}
+use Rattle.family_calls.specs.FamilyCallLaws.{ModuleRule, counted-rule, sizes-right}
 use Rattle.sheet_report.specs.declared.FamilyLines.{FamilyLines}
 use Rattle.sheet_report.specs.Lines.{sizeOr0, countOr0, sizeWord, lineIn, linesIn, LinesWritten}
 
@@ -64,46 +63,56 @@ module _ (types : List TypeDef) where
       kept-places isStruct coroutine isOne 0 types (λ i l. let z : 0 + i ≡ i = omega arith in ap isOne z)
       ∙ sym (kept-past isOne 0 (length types) n h (λ t l. no-type t (omega arith)))
 
-  lines-length : length (concatMap (familyLine types) (structNumbers types)) ≡ 2 * structCount types
-  unfolding familyLine structNumbers structCount
-  lines-length =
-      length-concatMap (familyLine types) 2 (λ t. refl) (placesFrom 0 isStruct types)
-      ∙ ap (λ k. 2 * k) (places-kept isStruct 0 types)
+-- the lines of a module, side by side
+abbrev linesOf : Module → List ℕ
+linesOf m = concatMap (familyLine m) (structNumbers (m .types))
+
+lines-length : (m : Module) → length (linesOf m) ≡ 2 * structsTotal m
+unfolding familyLine structNumbers structsTotal structCount
+lines-length m =
+    length-concatMap (familyLine m) 2 (λ t. refl) (placesFrom 0 isStruct (m .types))
+    ∙ ap (λ k. 2 * k) (places-kept isStruct 0 (m .types))
 
 -- ── lines and sizes of a table on which every size is the declared one ──
 
-module _ (ws : List ℕ) (types : List TypeDef) (rule : ChainRule mostOnChain types) (few : length types ≤ 2032)
-    (declared : (a : ℕ) → sizeIn ws a ≡ Size (familySize mostOnChain types a)) where
-  size-is : (a : ℕ) → sizeWord ws a ≡ familySize mostOnChain types a
+module _ (ws : List ℕ) (m : Module) (rule : ModuleRule m) (few : length (m .types) ≤ 2032)
+    (declared : (a : ℕ) → sizeIn ws a ≡ Size (familySize (mostOf m) (m .types) a)) where
+  abbrev types : List TypeDef
+  types = m .types
+
+  abbrev most : ℕ
+  most = mostOf m
+
+  size-is : (a : ℕ) → sizeWord ws a ≡ familySize most types a
   unfolding sizeWord sizeOr0
   size-is a = ap sizeOr0 (declared a)
 
-  size-if : (a : ℕ) (b : Bool) → isOne types a ≡ b → sizeWord ws a ≡ cond b (familySize mostOnChain types a) 0
+  size-if : (a : ℕ) (b : Bool) → isOne types a ≡ b → sizeWord ws a ≡ cond b (familySize most types a) 0
   size-if a true e = size-is a
-  size-if a false e = size-is a ∙ size-none mostOnChain types rule a e
+  size-if a false e = size-is a ∙ size-none most types rule a e
 
-  line-if : (a : ℕ) (b : Bool) → isOne types a ≡ b → lineIn ws a ≡ cond b (familyLine types a) []
+  line-if : (a : ℕ) (b : Bool) → isOne types a ≡ b → lineIn ws a ≡ cond b (familyLine m a) []
   unfolding lineIn familyLine
   line-if a true e =
       ap (λ k. cond (ltb 0 k) (a ∷ k ∷ []) []) (size-is a)
-      ∙ ap (λ b. cond b (a ∷ familySize mostOnChain types a ∷ []) [])
-      (lt-ltb 0 (familySize mostOnChain types a) (omega (arith, size-some mostOnChain types rule a (T-of (isOne types a) e))))
+      ∙ ap (λ b. cond b (a ∷ familySize most types a ∷ []) [])
+      (lt-ltb 0 (familySize most types a) (omega (arith, size-some most types rule a (T-of (isOne types a) e))))
   line-if a false e = ap (λ k. cond (ltb 0 k) (a ∷ k ∷ []) []) (size-if a false e)
 
-  lines-are : linesIn ws 2032 ≡ concatMap (familyLine types) (structNumbers types)
+  lines-are : linesIn ws 2032 ≡ linesOf m
   unfolding linesIn
   lines-are =
       ap (λ (g : ℕ → List ℕ). concatMap g (from 0 2032)) (fun-ext (λ a. line-if a (isOne types a) refl))
-      ∙ sym (concatMap-keep (isOne types) (familyLine types) (from 0 2032))
-      ∙ ap (concatMap (familyLine types)) (sym (numbers-kept types 2032 few))
+      ∙ sym (concatMap-keep (isOne types) (familyLine m) (from 0 2032))
+      ∙ ap (concatMap (familyLine m)) (sym (numbers-kept types 2032 few))
 
-  sizes-are : sum (sizeWord ws) (from 0 2032) ≡ sizesTotal types
+  sizes-are : sum (sizeWord ws) (from 0 2032) ≡ sizesTotal m
   unfolding sizesTotal
   sizes-are =
-      sum-ext (sizeWord ws) (λ a. cond (isOne types a) (familySize mostOnChain types a) 0)
+      sum-ext (sizeWord ws) (λ a. cond (isOne types a) (familySize most types a) 0)
       (λ a. size-if a (isOne types a) refl) (from 0 2032)
-      ∙ sym (sum-keep (isOne types) (familySize mostOnChain types) (from 0 2032))
-      ∙ ap (sum (familySize mostOnChain types)) (sym (numbers-kept types 2032 few))
+      ∙ sym (sum-keep (isOne types) (familySize most types) (from 0 2032))
+      ∙ ap (sum (familySize most types)) (sym (numbers-kept types 2032 few))
 
 -- ── the report ──
 
@@ -119,20 +128,20 @@ module _ (hosts sheet table work lines : List ℕ) (a : length table ≡ 16320) 
       let none = refused-none hosts sheet x (sym is-judged ∙ q) in
       record {
         answers = sym q ∙ is-judged;
-        tells = sym (ap (λ (ts : List TypeDef). concatMap (familyLine ts) (structNumbers ts)) none ∙ unfold structNumbers in refl);
+        tells = sym (ap linesOf none ∙ unfold structNumbers noModule in refl);
         rest = refl;
-        words = sym (ap (λ ts. 2 * structCount ts) none ∙ unfold structCount in refl);
-        structs = sym (ap structCount none ∙ unfold structCount in refl);
-        sizes = sym (ap sizesTotal none ∙ unfold sizesTotal structNumbers in refl);
+        words = sym (ap (λ m. 2 * structsTotal m) none ∙ unfold structsTotal structCount noModule in refl);
+        structs = sym (ap structsTotal none ∙ unfold structsTotal structCount noModule in refl);
+        sizes = sym (ap sizesTotal none ∙ unfold sizesTotal structNumbers noModule in refl);
       }
 
   module _ {l : ℕ} (q : r ≡ Accepted l) where
     links : Links sheet hosts 16320 16320 l
     links = (accepted sheet hosts 16320 16320 l) .0 (sym (ap₂ (load sheet hosts) a b) ∙ sym e ∙ q)
 
-    types-are : countedTypes hosts sheet ≡ links .source .types
-    unfolding countedTypes counting typesOf
-    types-are = ap₂ (λ (x : Loaded) (o : Option Module). counting x (typesOf o)) (sym is-judged ∙ q) (links .decodes)
+    module-is : countedModule hosts sheet ≡ links .source
+    unfolding countedModule counting
+    module-is = ap₂ counting (sym is-judged ∙ q) (links .decodes)
 
     long : 64 + 8 * lengthWord (words sheet) ≤ 16320
     unfolding longEnough enough fits needed
@@ -143,8 +152,8 @@ module _ (hosts sheet table work lines : List ℕ) (a : length table ≡ 16320) 
     few : length (links .source .types) ≤ 2032
     few = omega (arith, decoded-within sheet (links .source) (links .decodes), long)
 
-    count-is : {n : ℕ} → n ≡ countOr0 (structsIn sheet) → n ≡ structCount (links .source .types)
-    unfolding structsIn countedOf countOr0
+    count-is : {n : ℕ} → n ≡ countOr0 (structsIn sheet) → n ≡ structsTotal (links .source)
+    unfolding structsIn countedOf countOr0 structsTotal
     count-is c = c ∙ ap (λ (o : Option Module). countOr0 (countedOf o)) (links .decodes)
 
     pub accepted-report : (left v : List ℕ) (f : FamilyLines) {n : ℕ} → left ≡ tableAfter sheet hosts table work →
@@ -157,10 +166,10 @@ module _ (hosts sheet table work lines : List ℕ) (a : length table ≡ 16320) 
         let after = workAfter sheet hosts table work in
         let calls : Loads sheet hosts table work (Accepted l) left after = record { answers = sym q ∙ e; leaves = t; clears = refl } in
         let asked = sizes-right sheet hosts table work l left after m (links .decodes) calls left (unfold Begins in refl) in
-        let declared : (x : ℕ) → sizeIn left x ≡ Size (familySize mostOnChain (m .types) x) =
+        let declared : (x : ℕ) → sizeIn left x ≡ Size (familySize (mostOf m) (m .types) x) =
         λ x. asked .declared x (sizeIn left x) (record { answers = refl }) in
-        let rule : ChainRule mostOnChain (m .types) = subst (ChainRule mostOnChain) types-are (counted-rule hosts sheet) in
-        let lists = lines-are left (m .types) rule few declared in
+        let rule = subst ModuleRule module-is (counted-rule hosts sheet) in
+        let lists = lines-are left m rule few declared in
         let first = g .done ∙ written-first lines (linesIn left 2032) in
         record {
           answers = sym q ∙ is-judged;
@@ -168,12 +177,12 @@ module _ (hosts sheet table work lines : List ℕ) (a : length table ≡ 16320) 
               ap₂ take (g .words) first
               ∙ take-append-seam (linesIn left 2032) (drop (length (linesIn left 2032)) lines)
               ∙ lists
-              ∙ ap (λ (ts : List TypeDef). concatMap (familyLine ts) (structNumbers ts)) (sym types-are);
+              ∙ ap linesOf (sym module-is);
           rest =
               ap₂ drop (g .words) first
               ∙ drop-append-seam (linesIn left 2032) (drop (length (linesIn left 2032)) lines)
               ∙ ap (λ i. drop i lines) (sym (g .words));
-          words = g .words ∙ ap length lists ∙ lines-length (m .types) ∙ ap (λ ts. 2 * structCount ts) (sym types-are);
-          structs = count-is c ∙ ap structCount (sym types-are);
-          sizes = g .sizes ∙ sizes-are left (m .types) rule few declared ∙ ap sizesTotal (sym types-are);
+          words = g .words ∙ ap length lists ∙ lines-length m ∙ ap (λ m. 2 * structsTotal m) (sym module-is);
+          structs = count-is c ∙ ap structsTotal (sym module-is);
+          sizes = g .sizes ∙ sizes-are left m rule few declared ∙ ap sizesTotal (sym module-is);
         }

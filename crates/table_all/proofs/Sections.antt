@@ -14,8 +14,7 @@ use Rattle.writing.specs.WritingLaws.{written-then, join-first, join-room, join
 use Rattle.region.specs.Region.{Off, Frame}
 use Rattle.region.specs.RegionLaws.{frame-refl, frame-then}
 use Rattle.open_layout.specs.Opened.{moduleIn}
-use Rattle.parents.specs.Parents.{mostOnChain}
-use Rattle.table.specs.Table.{startsFrom, joined, hookSection, canonSection, globalSection, referenceSection, spanSection}
+use Rattle.table.specs.Table.{startsFrom, joined, hookSection, canonSection, globalSection, referenceSection, spansOf}
 use Rattle.open_sheet.specs.declared.Opened.{Opened}
 use Rattle.open_sheet.specs.Ready.{Ready, Opens}
 use Rattle.open_sheet.specs.ReadyLaws.{ready-below, imports-inside}
@@ -127,7 +126,7 @@ module _ (ws tb : List ℕ) (at : ℕ) (room : at + length (backWords ws) ≤ le
   R = referenceSection (moduleIn ws)
 
   abbrev S : List ℕ
-  S = spanSection mostOnChain (moduleIn ws)
+  S = spansOf (moduleIn ws)
 
   cut : at + length (C ++ G ++ R ++ S) ≤ length tb
   unfolding backWords
@@ -148,14 +147,15 @@ module _ (ws tb : List ℕ) (at : ℕ) (room : at + length (backWords ws) ≤ le
       references-room = third-room tb at C G R S cut a pa b qb
 
       module _ {t : List ℕ} {s : ℕ} (c : t ≡ written u q (referenceSection (moduleIn ws))) (sc : s ≡ q + length (referenceSection (moduleIn ws))) where
-        pub spans-room : s + length (spanSection mostOnChain (moduleIn ws)) ≤ length t
+        pub spans-room : s + length (spansOf (moduleIn ws)) ≤ length t
         spans-room = fourth-room tb at C G R S cut a pa b qb c sc
 
-        pub back-written : {x : List ℕ} → x ≡ written t s (spanSection mostOnChain (moduleIn ws)) → x ≡ written tb at (backWords ws)
+        pub back-written : {x : List ℕ} → x ≡ written t s (spansOf (moduleIn ws)) → x ≡ written tb at (backWords ws)
         unfolding backWords
         back-written d = four tb at C G R S cut a pa b qb c sc d
 
-        pub back-at : {e : ℕ} → e ≡ s + length (spanSection mostOnChain (moduleIn ws)) → BackAt ws at (record { globals = p; references = q; spans = s; end = e })
+        pub back-at : {e : ℕ} → e ≡ s + length (spansOf (moduleIn ws)) →
+            BackAt ws at (record { globals = p; references = q; spans = s; end = e })
         back-at d = record { globals = pa; references = qb; spans = sc; end = d }
 
 -- ── the header, and the whole ──
@@ -215,7 +215,8 @@ module _ (ws w : List ℕ) (o : Opened) where
       ++ (typeSection ws
       ++ (linkedImports ws w o
       ++ (hookSection (moduleIn ws)
-      ++ (canonSection (moduleIn ws) ++ (globalSection (moduleIn ws) ++ (referenceSection (moduleIn ws) ++ (spanSection mostOnChain (moduleIn ws) ++ [])))))))
+      ++ (canonSection (moduleIn ws) ++ (globalSection (moduleIn ws)
+      ++ (referenceSection (moduleIn ws) ++ (spansOf (moduleIn ws) ++ [])))))))
 
   flat-lists : (a b c d e f g h : List ℕ) → (a ++ b ++ c ++ d) ++ (e ++ f ++ g ++ h) ≡ a ++ (b ++ (c ++ (d ++ (e ++ (f ++ (g ++ (h ++ [])))))))
   flat-lists a b c d e f g h = simp (append-assoc, append-nil)
@@ -223,7 +224,8 @@ module _ (ws w : List ℕ) (o : Opened) where
   flat : frontWords ws w o ++ backWords ws ≡ every
   unfolding frontWords backWords
   flat =
-      flat-lists (funcSection ws) (typeSection ws) (linkedImports ws w o) (hookSection (moduleIn ws)) (canonSection (moduleIn ws)) (globalSection (moduleIn ws)) (referenceSection (moduleIn ws)) (spanSection mostOnChain (moduleIn ws))
+      flat-lists (funcSection ws) (typeSection ws) (linkedImports ws w o) (hookSection (moduleIn ws))
+      (canonSection (moduleIn ws)) (globalSection (moduleIn ws)) (referenceSection (moduleIn ws)) (spansOf (moduleIn ws))
 
   -- the table's length, by its halves
   pub table-length : length (tableBy ws w o) ≡ 10 + length (frontWords ws w o) + length (backWords ws)
@@ -257,7 +259,8 @@ module _ (ws w : List ℕ) (o : Opened) where
             y .end,
             length-append (canonSection (moduleIn ws)) (globalSection (moduleIn ws)),
             length-append (canonSection (moduleIn ws) ++ globalSection (moduleIn ws)) (referenceSection (moduleIn ws)),
-            length-append (canonSection (moduleIn ws) ++ globalSection (moduleIn ws) ++ referenceSection (moduleIn ws)) (spanSection mostOnChain (moduleIn ws)),
+            length-append (canonSection (moduleIn ws) ++ globalSection (moduleIn ws)
+                ++ referenceSection (moduleIn ws)) (spansOf (moduleIn ws)),
           )
 
       pub end-length : b .end ≡ length (tableBy ws w o)

@@ -8,11 +8,12 @@ use Rattle.sheet.specs.Module.{Module}
 use Rattle.open_layout.specs.Opened.{moduleIn}
 use Rattle.error.specs.declared.LoadError.{LoadError}
 use Rattle.types.specs.Types.{typesFaults}
-use Rattle.parents.specs.Parents.{mostOnChain, parentsFaults}
+use Rattle.sheet.specs.Editions.{mostOf}
+use Rattle.parents.specs.Parents.{parentsFaults}
 use Rattle.imports.specs.Imports.{globalsFaults}
 use Rattle.funcs.specs.Funcs.{funcsFaults}
 use Rattle.table.specs.Records.{typeRecord, funcRecord}
-use Rattle.table.specs.Table.{joined, hookSection, canonSection, globalSection, referenceSection, spanSection}
+use Rattle.table.specs.Table.{joined, hookSection, canonSection, globalSection, referenceSection, spansOf}
 use Rattle.open_sheet.specs.declared.Opened.{Opened}
 use Rattle.table_all.specs.declared.Front.{Front}
 use Rattle.table_all.specs.declared.Back.{Back}
@@ -21,7 +22,7 @@ use Rattle.table_imports.specs.Sections.{linkedImports, SigsInside, BindingsFit
 -- what the sections ask of a module: these rules hold
 pub record Clear (m : Module) : Type 0 where
   pub types : typesFaults m ≡ []
-  pub parents : parentsFaults mostOnChain m ≡ []
+  pub parents : parentsFaults (mostOf m) m ≡ []
   pub signed : SigsInside m
   pub globals : globalsFaults m ≡ []
   pub funcs : funcsFaults m ≡ []
@@ -40,7 +41,7 @@ module _ (ws : List ℕ) where
 
   -- canonical numbers, globals, references among them, spans
   unfoldable pub backWords : List ℕ
-  backWords = canonSection (moduleIn ws) ++ globalSection (moduleIn ws) ++ referenceSection (moduleIn ws) ++ spanSection mostOnChain (moduleIn ws)
+  backWords = canonSection (moduleIn ws) ++ globalSection (moduleIn ws) ++ referenceSection (moduleIn ws) ++ spansOf (moduleIn ws)
 
   -- where each section starts, the first of them at a place, and where the last ends
   pub record FrontAt (w : List ℕ) (o : Opened) (at : ℕ) (f : Front) : Type 0 where
@@ -53,7 +54,7 @@ module _ (ws : List ℕ) where
     pub globals : b .globals ≡ at + length (canonSection (moduleIn ws))
     pub references : b .references ≡ b .globals + length (globalSection (moduleIn ws))
     pub spans : b .spans ≡ b .references + length (referenceSection (moduleIn ws))
-    pub end : b .end ≡ b .spans + length (spanSection mostOnChain (moduleIn ws))
+    pub end : b .end ≡ b .spans + length (spansOf (moduleIn ws))
 
 -- edition, L, the starts
 unfoldable pub headerOf : Front → Back → List ℕ
@@ -81,5 +82,5 @@ tableBy ws w o =
     ∷ canonSection (moduleIn ws)
     ∷ globalSection (moduleIn ws)
     ∷ referenceSection (moduleIn ws)
-    ∷ spanSection mostOnChain (moduleIn ws)
+    ∷ spansOf (moduleIn ws)
     ∷ [])

@@ -22,7 +22,8 @@ use Rattle.open_sheet.specs.declared.Opened.{Opened}
 use Rattle.open_sheet.specs.Ready.{Ready}
 use Rattle.open_sheet.specs.ReadyLaws.{count-types, types-inside, ready-below}
 use Rattle.parents.specs.Forest.{Entry, other, root, sub, structEntry, entryOf, entry, entryAt}
-use Rattle.parents.specs.Parents.{mostOnChain, parentsFaults}
+use Rattle.sheet.specs.Editions.{mostOf}
+use Rattle.parents.specs.Parents.{parentsFaults}
 use Rattle.rule3_parents.specs.Child.{parentOf, parentWord}
 use Rattle.spans.specs.Spans.{isRoot, isChildOf, numbersOf, roots, children}
 use Rattle.law_forest.specs.Entries.{isStructEntry, struct-entry}
@@ -319,9 +320,9 @@ module _ (ws w : List ℕ) (o : Opened) (x : Ready ws w o) where
 
 -- ── as the code has it ──
 
-module _ (ws w : List ℕ) (o : Opened) (x : Ready ws w o) (e : parentsFaults mostOnChain (moduleIn ws) ≡ []) (t : ℕ) where
+module _ (ws w : List ℕ) (o : Opened) (x : Ready ws w o) (e : parentsFaults (mostOf (moduleIn ws)) (moduleIn ws) ≡ []) (t : ℕ) where
   word-few : {p r : ℕ} → p ≡ parentWord (typeAt (moduleIn ws .types) t) → r ≡ p → r ≤ length (moduleIn ws .types)
-  word-few g h = omega (arith, parent-few mostOnChain (moduleIn ws) e t)
+  word-few g h = omega (arith, parent-few (mostOf (moduleIn ws)) (moduleIn ws) e t)
 
   pub list-room : {p r : ℕ} → p ≡ parentWord (typeAt (moduleIn ws .types) t) → r ≡ p → 4 * o .layout .words + r < length w
   list-room g h = omega (arith, word-few g h, types-few ws w o x, x .room)

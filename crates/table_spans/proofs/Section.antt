@@ -13,17 +13,20 @@ use Rattle.law_counting.specs.Counting.{tick, count}
 use Rattle.region.specs.Region.{Off, Frame}
 use Rattle.sheet.specs.Module.{TypeDef, Module, typeAt, isStruct}
 use Rattle.open_layout.specs.Opened.{moduleIn}
-use Rattle.parents.specs.Parents.{mostOnChain, parentsFaults}
+use Rattle.sheet.specs.Editions.{mostOnChain, mostOf}
+use Rattle.sheet.specs.EditionLaws.{most-from-one}
+use Rattle.parents.specs.Parents.{parentsFaults}
 use Rattle.spans.specs.Spans.{roots, under, order, spanOf, spans}
 use Rattle.law_forest.specs.Entries.{isStructEntry, struct-at, entry-out}
 use Rattle.law_forest.specs.Once.{ChainRule, once}
 use Rattle.law_forest.specs.Family.{Part, part-self, ready-root}
 use Rattle.law_forest.specs.Accepted.{chain-rule}
 use Rattle.law_forest.specs.Lengths.{length-roots}
-use Rattle.table.specs.Table.{spanSection}
+use Rattle.table.specs.Table.{spanSection, spansOf}
 use Rattle.table.specs.TableLaws.{span-at, spanSection-length}
 use Rattle.open_sheet.specs.declared.Opened.{Opened}
 use Rattle.open_sheet.specs.Ready.{Ready}
+use Rattle.open_sheet.specs.ReadyLaws.{ready-most}
 use Rattle.writing.specs.Writing.{written}
 use Rattle.writing.specs.WritingLaws.{written-by}
 use Rattle.table_spans.specs.Siblings.{membersFrom}
@@ -36,15 +39,15 @@ walks-order : (most : ℕ) (types : List TypeDef) → walksFrom most types 0 0 �
 unfolding walksFrom order
 walks-order most types = ap (concatMap (under most types)) (members-roots types)
 
-pub walks-all : (m : Module) → parentsFaults mostOnChain m ≡ [] → Walks mostOnChain (m .types) 0 0 mostOnChain
-walks-all m e =
-    let rule : ChainRule mostOnChain (m .types) = chain-rule mostOnChain (omega arith) m e in
-    let all = walksFrom mostOnChain (m .types) 0 0 in
+walks-roots : (most : ℕ) → 1 ≤ most → (m : Module) → parentsFaults most m ≡ [] → Walks most (m .types) 0 0 most
+walks-roots most one m e =
+    let rule : ChainRule most (m .types) = chain-rule most one m e in
+    let all = walksFrom most (m .types) 0 0 in
     record {
       rule = rule;
-      placed = record { part = subst (λ l. Part all l) (walks-order mostOnChain (m .types)) (part-self all); before = refl };
-      ready = λ t h. ready-root mostOnChain (m .types) rule t (rooted t h);
-      level = λ t h. omega (arith, length-roots mostOnChain (m .types) rule t (rooted t h));
+      placed = record { part = subst (λ l. Part all l) (walks-order most (m .types)) (part-self all); before = refl };
+      ready = λ t h. ready-root most (m .types) rule t (rooted t h);
+      level = λ t h. omega (arith, length-roots most (m .types) rule t (rooted t h));
     }
   where
     rooted : (t : ℕ) → 1 ≤ count t (membersFrom (m .types) 0 0) → 1 ≤ count t (roots (m .types))
@@ -127,22 +130,37 @@ module _ (most : ℕ) (m : Module) (rule : ChainRule most (m .types)) (at : ℕ)
   section-written : y ≡ written v at (spanSection most m)
   section-written = written-by v y at (spanSection most m) kept word room
 
--- ── as the code has it ──
+-- ── as the code has it, its limit being the edition's ──
 
 pub section-size : {ws w : List ℕ} {o : Opened} → Ready ws w o
-    → length (spanSection mostOnChain (moduleIn ws)) ≡ 1 + 3 * o .counts .types
-section-size {ws} {w} {o} x = omega (arith, counted ws w o x, spanSection-length mostOnChain (moduleIn ws))
+    → length (spansOf (moduleIn ws)) ≡ 1 + 3 * o .counts .types
+section-size {ws} {w} {o} x = omega (arith, counted ws w o x, spanSection-length (mostOf (moduleIn ws)) (moduleIn ws))
 
-pub spans-written : {ws w : List ℕ} {o : Opened} → Ready ws w o → parentsFaults mostOnChain (moduleIn ws) ≡ []
-    → (at : ℕ) (v u z y : List ℕ)
-    → at + length (spanSection mostOnChain (moduleIn ws)) ≤ length v
-    → u ≡ set v at (o .counts .types)
-    → Blank at (o .counts .types) u z
-    → Numbered mostOnChain (moduleIn ws .types) at (walksFrom mostOnChain (moduleIn ws .types) 0 0) z y
-    → y ≡ written v at (spanSection mostOnChain (moduleIn ws))
-spans-written {ws} {w} {o} x e at v u z y room a b n =
-    let c : o .counts .types ≡ length (moduleIn ws .types) = counted ws w o x in
-    section-written mostOnChain (moduleIn ws) (chain-rule mostOnChain (omega arith) (moduleIn ws) e) at v u z y room
-    (a ∙ ap (set v at) c)
-    (subst (λ i. Blank at i u z) c b)
-    (subst (λ l. Numbered mostOnChain (moduleIn ws .types) at l z y) (walks-order mostOnChain (moduleIn ws .types)) n)
+module _ {ws w : List ℕ} {o : Opened} (x : Ready ws w o) (e : parentsFaults (mostOf (moduleIn ws)) (moduleIn ws) ≡ []) {most : ℕ}
+    (k : most ≡ mostOnChain (o .edition)) where
+  limit : mostOf (moduleIn ws) ≡ most
+  limit = sym (ready-most ws w o x k)
+
+  one : 1 ≤ most
+  one = omega (arith, k, most-from-one (o .edition))
+
+  kept-under : parentsFaults most (moduleIn ws) ≡ []
+  kept-under = ap (λ n. parentsFaults n (moduleIn ws)) (sym limit) ∙ e
+
+  pub walks-all : Walks most (moduleIn ws .types) 0 0 most
+  walks-all = walks-roots most one (moduleIn ws) kept-under
+
+  pub spans-written : (at : ℕ) (v u z y : List ℕ)
+      → at + length (spansOf (moduleIn ws)) ≤ length v
+      → u ≡ set v at (o .counts .types)
+      → Blank at (o .counts .types) u z
+      → Numbered most (moduleIn ws .types) at (walksFrom most (moduleIn ws .types) 0 0) z y
+      → y ≡ written v at (spansOf (moduleIn ws))
+  spans-written at v u z y room a b n =
+      let c : o .counts .types ≡ length (moduleIn ws .types) = counted ws w o x in
+      let s = section-written most (moduleIn ws) (chain-rule most one (moduleIn ws) kept-under) at v u z y
+      (subst (λ i. at + length (spanSection i (moduleIn ws)) ≤ length v) limit room)
+      (a ∙ ap (set v at) c)
+      (subst (λ i. Blank at i u z) c b)
+      (subst (λ l. Numbered most (moduleIn ws .types) at l z y) (walks-order most (moduleIn ws .types)) n) in
+      s ∙ ap (λ i. written v at (spanSection i (moduleIn ws))) (sym limit)

@@ -5,8 +5,9 @@ ghost use Prim.Native.Nat.{_+_, _*_, _≤_, _<_};
 ghost use lib.ListN.{length};
 ghost use Rattle.region.specs.Region.{Off, Frame};
 ghost use Rattle.open_sheet.specs.Ready.{Ready, sheetWords, moduleOf};
-ghost use Rattle.parents.specs.Parents.{mostOnChain, parentsFaults};
-ghost use Rattle.table.specs.Table.{spanSection};
+ghost use Rattle.sheet.specs.Editions.{mostOf};
+ghost use Rattle.parents.specs.Parents.{parentsFaults};
+ghost use Rattle.table.specs.Table.{spansOf};
 ghost use Rattle.writing.specs.Writing.{written};
 ghost use Rattle.table_spans.specs.Siblings.{Linking, Linked};
 ghost use Rattle.table_spans.specs.Walked.{walksFrom, Walks, Numbered, Blank};
@@ -18,12 +19,13 @@ use region::put;
 use region::widen;
 use rule3_parents::is_struct;
 use rule3_parents::parent_of;
+use sheet::most_on_chain;
 use writing::push;
 
 // A struct becomes the first of its parent's children, a root the first of the roots.
 fn link(sheet: &[u8], work: &mut [u32], o: Opened, t: TypeId)
     requires { ⌜ Ready (sheetWords (now sheet) o) (now work) o ⌝ }
-    requires { ⌜ parentsFaults mostOnChain (moduleOf (now sheet) o) ≡ [] ⌝ }
+    requires { ⌜ parentsFaults (mostOf (moduleOf (now sheet) o)) (moduleOf (now sheet) o) ≡ [] ⌝ }
     requires { ⌜ Linking (moduleOf (now sheet) o .types) (o .layout .words) (t .0 + 1) (now work) ⌝ }
     requires { ⌜ t .0 < o .counts .types ⌝ }
     ensures { λ r. ⌜ Linking (moduleOf (now (sheet .entry)) o .types) (o .layout .words) (t .0) (now (work .exit)) ⌝ }
@@ -39,7 +41,7 @@ fn link(sheet: &[u8], work: &mut [u32], o: Opened, t: TypeId)
 // Each struct's children and the roots as lists; from the last type down, so that they rise.
 fn link_all(sheet: &[u8], work: &mut [u32], o: Opened)
     requires { ⌜ Ready (sheetWords (now sheet) o) (now work) o ⌝ }
-    requires { ⌜ parentsFaults mostOnChain (moduleOf (now sheet) o) ≡ [] ⌝ }
+    requires { ⌜ parentsFaults (mostOf (moduleOf (now sheet) o)) (moduleOf (now sheet) o) ≡ [] ⌝ }
     ensures { λ r. ⌜ Linked (moduleOf (now (sheet .entry)) o .types) o (now (work .exit)) ⌝ }
     ensures { λ r. ⌜ Frame (λ k. Off (4 * o .layout .words) (5 * o .layout .words) k × (k < 6 * o .layout .words)) (now (work .entry)) (now (work .exit)) ⌝ }
 {
@@ -74,7 +76,8 @@ fn blank_spans(table: &mut [u32], at: usize, n: usize)
     }
 }
 
-// Number the structs of a list and those below them; the answer is the clock after them. The sheet is lent for the contract.
+// Number the structs of a list and those below them, `left` of the `most` on a chain; the answer is the clock after them.
+// The sheet is lent for the contract.
 fn visit(
     sheet: &[u8],
     work: &[u32],
@@ -84,19 +87,26 @@ fn visit(
     list: usize,
     clock: usize,
     left: u32,
+    most: u32,
 ) -> usize
     requires { ⌜ Linked (moduleOf (now sheet) o .types) o (now work) ⌝ }
-    requires { ⌜ Walks mostOnChain (moduleOf (now sheet) o .types) list clock left ⌝ }
+    requires { ⌜ Walks most (moduleOf (now sheet) o .types) list clock left ⌝ }
     requires { ⌜ list ≤ o .counts .types ⌝ }
     requires { ⌜ at + 1 + 3 * o .counts .types ≤ length (now table) ⌝ }
-    ensures { λ r. ⌜ Numbered mostOnChain (moduleOf (now (sheet .entry)) o .types) at (walksFrom left (moduleOf (now (sheet .entry)) o .types) list 0) (now (table .entry)) (now (table .exit)) ⌝ }
+    ensures { λ r. ⌜ Numbered most (moduleOf (now (sheet .entry)) o .types) at (walksFrom left (moduleOf (now (sheet .entry)) o .types) list 0) (now (table .entry)) (now (table .exit)) ⌝ }
     ensures { λ r. ⌜ r ≡ clock + length (walksFrom left (moduleOf (now (sheet .entry)) o .types) list 0) ⌝ }
 {
     let mut now = clock;
     let mut t = widen(work[4 * o.layout.words + list]);
     while t < o.counts.types as usize {
-        let after = visit(sheet, work, o, table, at, t + 1, now + 1, left - 1);
-        store_span(table, at + 1 + 3 * t, now, after, 257 - left as usize);
+        let after = visit(sheet, work, o, table, at, t + 1, now + 1, left - 1, most);
+        store_span(
+            table,
+            at + 1 + 3 * t,
+            now,
+            after,
+            most as usize + 1 - left as usize,
+        );
         now = after;
         t = widen(work[6 * o.layout.words + t]);
     }
@@ -106,16 +116,17 @@ fn visit(
 // The count of types, and pre, post and chain length of each; the answer is the next place.
 pub fn write_spans(sheet: &[u8], work: &mut [u32], o: Opened, table: &mut [u32], at: usize) -> usize
     requires { ⌜ Ready (sheetWords (now sheet) o) (now work) o ⌝ }
-    requires { ⌜ parentsFaults mostOnChain (moduleOf (now sheet) o) ≡ [] ⌝ }
-    requires { ⌜ at + length (spanSection mostOnChain (moduleOf (now sheet) o)) ≤ length (now table) ⌝ }
-    ensures { λ r. ⌜ now (table .exit) ≡ written (now (table .entry)) at (spanSection mostOnChain (moduleOf (now (sheet .entry)) o)) ⌝ }
-    ensures { λ r. ⌜ r ≡ at + length (spanSection mostOnChain (moduleOf (now (sheet .entry)) o)) ⌝ }
+    requires { ⌜ parentsFaults (mostOf (moduleOf (now sheet) o)) (moduleOf (now sheet) o) ≡ [] ⌝ }
+    requires { ⌜ at + length (spansOf (moduleOf (now sheet) o)) ≤ length (now table) ⌝ }
+    ensures { λ r. ⌜ now (table .exit) ≡ written (now (table .entry)) at (spansOf (moduleOf (now (sheet .entry)) o)) ⌝ }
+    ensures { λ r. ⌜ r ≡ at + length (spansOf (moduleOf (now (sheet .entry)) o)) ⌝ }
     ensures { λ r. ⌜ Frame (λ k. Off (4 * o .layout .words) (5 * o .layout .words) k × (k < 6 * o .layout .words)) (now (work .entry)) (now (work .exit)) ⌝ }
 {
     let n = o.counts.types as usize;
+    let most = most_on_chain(o.edition);
     link_all(sheet, work, o);
     put(table, at, n);
     blank_spans(table, at, n);
-    visit(sheet, work, o, table, at, 0, 0, 256);
+    visit(sheet, work, o, table, at, 0, 0, most, most);
     at + 1 + 3 * n
 }

@@ -1,13 +1,13 @@
 //! One case or pair at a time against the reference.
 
-use bvm_lang::{descends, Program};
+use bvm_lang::descends;
 use compare::{
     answer, asked_numbers, descends_by_parents, length_difference, load, nearest_difference,
     pair_difference, query, said_by, Accepted, StoredCase,
 };
 use generator::{case, pair, Case, Draft, Rng};
 use paqlluri::LoadError;
-use sheets::{decode_sheet, encode_hosts, encode_sheet, needed, Sheet, BLOCK};
+use sheets::{decode_sheet, encode_hosts, encode_sheet, needed, Edition, BLOCK};
 
 use crate::{Lent, Loader, Tally};
 
@@ -64,25 +64,25 @@ impl<'l, L: Loader> Checker<'l, L> {
         let (numbers, accepted) = self.call(case)?;
         let intact = decode_sheet(&case.sheet).map(|(sheet, _)| sheet);
         let structs = self.count(&case.sheet, intact.as_ref())?;
-        let Some(Accepted { sheet, program, .. }) = accepted else {
-            self.tally.coverage.add_numbers(numbers, None);
+        self.tally.coverage.add(&case.sheet, &case.hosts, numbers);
+        let Some(accepted) = accepted else {
             self.foreign_size(rng)?;
             self.foreign_length(rng)?;
             return self.foreign_nearest(rng);
         };
-        self.tally.coverage.add_numbers(numbers, Some(&sheet));
+        let sheet = &accepted.sheet;
         self.tally.accept(&case.sheet, numbers[2] as usize);
-        self.families(rng, &program, &sheet)?;
+        self.families(rng, &accepted)?;
         self.altered(rng)?;
-        let of_roots = self.sizes(&sheet)?;
+        let of_roots = self.sizes(sheet)?;
         if of_roots != structs {
             return Err(format!(
                 "the root families have {of_roots} types, the sheet {structs} structs"
             ));
         }
         self.altered_sizes(rng)?;
-        self.chain_lengths(rng, &sheet)?;
-        self.nearest_families(rng, &sheet)?;
+        self.chain_lengths(rng, sheet)?;
+        self.nearest_families(rng, sheet)?;
         self.invented_lengths(rng)
     }
 
@@ -108,11 +108,10 @@ impl<'l, L: Loader> Checker<'l, L> {
         let (others, also) = self.call(&cases[1])?;
         self.tally.other_kind_pairs += u64::from(numbers[0] != others[0]);
         match (accepted, also) {
-            (Some(_), Some(_)) => {}
+            (Some(first), Some(_)) => self.tally.accept_pair(first.sheet.edition),
             (None, None) => return Ok(()),
             _ => return Err(format!("answered {numbers:?} and, renumbered, {others:?}")),
         }
-        self.tally.accepted_pairs += 1;
         let second = &self.table.now()[..others[2] as usize];
         let asked = asked_numbers(rng, images.len(), ASKED);
         let all = asked_numbers(rng, images.len(), images.len());
@@ -146,9 +145,10 @@ impl<'l, L: Loader> Checker<'l, L> {
             }
         };
         if numbers != expected {
-            return Err(format!("answered {numbers:?}, the reference {expected:?}"));
+            return Err(format!("answered {numbers:?}, expected {expected:?}"));
         }
-        self.slices(numbers[0], &words)?;
+        let edition = accepted.as_ref().map(|a| a.sheet.edition);
+        self.slices(numbers[0], edition.unwrap_or_default(), &words)?;
         let named = LoadError::from_numbers(numbers).map(|e| e.numbers());
         if accepted.is_none() && named != Some(numbers) {
             return Err(format!("{numbers:?} have no name"));
@@ -157,12 +157,12 @@ impl<'l, L: Loader> Checker<'l, L> {
     }
 
     /// The table begins with these words and is else as before; work is zero, or as before.
-    fn slices(&self, kind: u32, words: &[u32]) -> Result<(), String> {
+    fn slices(&self, kind: u32, edition: Edition, words: &[u32]) -> Result<(), String> {
         let table = self.table.now();
         if !table.starts_with(words) {
             let place = table.iter().zip(words).take_while(|(a, b)| a == b).count();
             let (found, expected) = (table.get(place), words.get(place));
-            let by = said_by(words, place);
+            let by = said_by(edition, words, place);
             return Err(format!(
                 "table word {place} is {found:?}, {by} {expected:?}"
             ));
@@ -192,15 +192,17 @@ impl<'l, L: Loader> Checker<'l, L> {
         Ok(())
     }
 
-    /// The query on the table as load left it, the Rust's own, and the declared parents say the same.
-    fn families(&mut self, rng: &mut Rng, program: &Program, sheet: &Sheet) -> Result<(), String> {
+    /// The query on the table as load left it, the Rust's own of the first edition, and the declared parents say the same.
+    fn families(&mut self, rng: &mut Rng, accepted: &Accepted) -> Result<(), String> {
+        let (sheet, program) = (&accepted.sheet, accepted.program());
         let asked = asked_numbers(rng, sheet.types.len(), ASKED);
         self.tally.queries += (asked.len() * asked.len()) as u64;
         for &t in &asked {
             for &a in &asked {
                 let declared = descends_by_parents(sheet, t, a);
                 let found = self.loader.descends(self.table.now(), t, a);
-                if found != u32::from(declared) || descends(program, t, a) != declared {
+                let by_rust = program.is_none_or(|p| descends(p, t, a) == declared);
+                if found != u32::from(declared) || !by_rust {
                     return Err(format!(
                         "{t} descends from {a}: answered {found}, declared {declared}"
                     ));

@@ -3,12 +3,12 @@
 use std::fmt;
 
 use compare::Coverage;
-use sheets::BLOCK;
+use sheets::{Edition, BLOCK};
 
 /// Counts of a run.
 #[derive(Clone, Debug, Default)]
 pub struct Tally {
-    /// Hits by kind, word, code and longest chain, of cases alone.
+    /// Hits by kind, word, code, longest chain and edition, of cases alone.
     pub coverage: Coverage,
     pub cases: u64,
     /// Cases with a host list over the wanted size.
@@ -18,7 +18,8 @@ pub struct Tally {
     pub blocks: Option<(usize, usize)>,
     pub largest_table: usize,
     pub pairs: u64,
-    pub accepted_pairs: u64,
+    /// By edition.
+    pub accepted_pairs: [u64; 2],
     pub other_kind_pairs: u64,
     pub queries: u64,
     /// Sizes of families that were asked for, and those of them that are kind 25.
@@ -50,6 +51,10 @@ impl Tally {
         self.accepted += 1;
         self.widen((blocks, blocks));
         self.largest_table = self.largest_table.max(table_words);
+    }
+
+    pub fn accept_pair(&mut self, edition: Edition) {
+        self.accepted_pairs[edition as usize - 1] += 1;
     }
 
     fn widen(&mut self, (few, many): (usize, usize)) {
@@ -95,7 +100,10 @@ impl Tally {
         let mut missed = self.coverage.missed();
         let ([found, none, not_linked], [together, apart]) = (self.nearest, self.triples);
         let [no_chain, of_root, longer, over, no_table] = self.lengths;
+        let [first_pairs, second_pairs] = self.accepted_pairs;
         let others = [
+            (first_pairs, "an accepted pair of edition 1"),
+            (second_pairs, "an accepted pair of edition 2"),
             (self.counts - self.broken, "a count of kind 0"),
             (self.broken, "a count of kind 1"),
             (self.not_linked, "a size of kind 25"),
@@ -130,7 +138,7 @@ impl Tally {
         }
         self.largest_table = self.largest_table.max(other.largest_table);
         self.pairs += other.pairs;
-        self.accepted_pairs += other.accepted_pairs;
+        add(&mut self.accepted_pairs, &other.accepted_pairs);
         self.other_kind_pairs += other.other_kind_pairs;
         self.queries += other.queries;
         self.sizes += other.sizes;
@@ -201,6 +209,7 @@ fn add(to: &mut [u64], from: &[u64]) {
 impl fmt::Display for Tally {
     fn fmt(&self, f: &mut fmt::Formatter<'_>) -> fmt::Result {
         let (few, many) = self.blocks.unwrap_or_default();
+        let [first, second] = self.accepted_pairs;
         writeln!(
             f,
             "{} cases agree, {} of them accepted ({few} to {many} blocks, tables of up to {} words)",
@@ -208,8 +217,8 @@ impl fmt::Display for Tally {
         )?;
         writeln!(
             f,
-            "{} renumbered pairs agree, {} of them accepted, {} refused by two kinds",
-            self.pairs, self.accepted_pairs, self.other_kind_pairs
+            "{} renumbered pairs agree, {first} of edition 1 and {second} of edition 2 accepted, {} refused by two kinds",
+            self.pairs, self.other_kind_pairs
         )?;
         writeln!(f, "{} family queries agree", self.queries)?;
         self.fmt_families(f)?;

@@ -1,10 +1,13 @@
-//! Borders at 65,536 fields and registers, of 256 types on a chain, of 24, and of what is a linked table: the library is held to
-//! the reference just below, at and past each.
+//! Borders at 65,536 fields and registers, of 256 and of 64 types on a chain, of 24, and of what is a linked table: the library is
+//! held to the reference, or in edition 2 to the format, just below, at and past each.
 
 use compare::{length_in, nearest_in, query, size_in};
 use generator::{Case, Rng};
 use sheets::build::{aw, func, function, ret_void, strings, structure, user};
-use sheets::{encode_hosts, encode_sheet, needed, op, Sheet, TypeEntry, ValueType, DYN, STR};
+use sheets::{
+    encode_hosts, encode_sheet, needed, op, with_edition, Edition, Sheet, TypeEntry, ValueType,
+    DYN, STR,
+};
 use versus::{Checker, Library, Loader};
 
 const BORDER: [usize; 3] = [65_535, 65_536, 65_537];
@@ -112,28 +115,69 @@ fn one_word_too_few_is_short() {
 }
 
 /// Types without members, each with the parent that is given for its number, and a type that is no struct.
-fn forest(structs: u32, parent: impl Fn(u32) -> Option<u32>) -> Sheet {
+fn forest(edition: Edition, structs: u32, parent: impl Fn(u32) -> Option<u32>) -> Sheet {
     let mut types: Vec<_> = (0..structs).map(|t| structure(parent(t), &[])).collect();
     types.push(TypeEntry::Coroutine);
     Sheet {
+        edition,
         strings: strings(&[""]),
         types,
         ..Sheet::default()
     }
 }
 
+/// A chain whose root is the first, and one whose root is the last, the root with this parent.
+fn chains(edition: Edition, structs: u32, top: Option<u32>) -> [Sheet; 2] {
+    let rising = |t: u32| t.checked_sub(1).or(top);
+    let falling = |t: u32| if t + 1 < structs { Some(t + 1) } else { top };
+    [
+        forest(edition, structs, rising),
+        forest(edition, structs, falling),
+    ]
+}
+
 #[test]
-fn a_chain_has_at_most_256_types() {
-    for structs in [1, 2, 255, 256, 257] {
-        let rising = forest(structs, |t| t.checked_sub(1));
-        let falling = forest(structs, |t| (t + 1 < structs).then_some(t + 1));
-        let kind = if structs > 256 { 17 } else { 0 };
-        for sheet in [&rising, &falling] {
-            assert_eq!(agreed(&case(sheet))[0], kind);
+fn a_chain_has_at_most_256_types_or_64() {
+    let lengths = [1, 2, 63, 64, 65, 66, 255, 256, 257];
+    for (edition, most) in [(Edition::First, 256), (Edition::Second, 64)] {
+        for structs in lengths {
+            let kind = if structs > most { 17 } else { 0 };
+            for sheet in chains(edition, structs, None) {
+                assert_eq!(agreed(&case(&sheet))[0], kind, "{edition:?}, {structs}");
+            }
         }
-        if kind != 0 {
-            continue;
+        // The last number met counts: absent, or no struct.
+        for top in [most + 1, most] {
+            let kinds = chains(edition, most, Some(top)).map(|sheet| agreed(&case(&sheet))[0]);
+            assert_eq!(kinds, [16, 17], "{edition:?}");
+            let kinds = chains(edition, most - 1, Some(top)).map(|sheet| agreed(&case(&sheet))[0]);
+            assert_eq!(kinds, [16, 16], "{edition:?}");
         }
+        let own_parent = forest(edition, 1, |_| Some(0));
+        assert_eq!(agreed(&case(&own_parent))[0], 17, "{edition:?}");
+    }
+}
+
+#[test]
+fn sheets_have_two_editions_and_host_lists_one() {
+    for (word, kinds) in [(0, [1, 23]), (1, [0, 0]), (2, [0, 23]), (3, [1, 23])] {
+        let mut other = case(&Sheet::default());
+        other.sheet = with_edition(&other.sheet, word);
+        let mut list = case(&Sheet::default());
+        list.hosts = with_edition(&list.hosts, word);
+        assert_eq!([other, list].map(|case| agreed(&case)[0]), kinds, "{word}");
+    }
+}
+
+#[test]
+fn chains_have_their_lengths() {
+    let accepted = [
+        (Edition::First, [1, 2, 255, 256]),
+        (Edition::Second, [1, 2, 63, 64]),
+    ];
+    let each = |(edition, lengths): (_, [u32; 4])| lengths.map(|structs| (edition, structs));
+    for (edition, structs) in accepted.into_iter().flat_map(each) {
+        let [rising, falling] = chains(edition, structs, None);
         let [(_, up), (_, down)] = [&rising, &falling].map(|sheet| loaded(&case(sheet)));
         for t in 0..structs {
             assert_eq!(Library.chain_length(&up, t), [0, t + 1]);

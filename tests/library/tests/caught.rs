@@ -1,6 +1,7 @@
 //! Wrong loaders are caught: each of these differs from the library in one number or word.
 
-use compare::{read_cases, write_cases};
+use compare::{chain_lengths, read_cases, write_cases};
+use sheets::{decode_sheet, encode_sheet, read_blocks, with_edition, Edition, TypeEntry};
 use versus::{run, Difference, Library, Loader, Plan};
 
 const PLAN: Plan = Plan {
@@ -10,6 +11,15 @@ const PLAN: Plan = Plan {
     jobs: 1,
     host_blocks: 64,
 };
+
+/// Cases enough that each edition has chains just at its limit.
+const LONG_PLAN: Plan = Plan {
+    cases: 5_000,
+    ..PLAN
+};
+
+/// What is done to a sheet and to a host list before the call.
+type AlterGiven = fn(&mut Vec<u8>, &mut Vec<u8>);
 
 /// What is done to an answer and to the slices after it.
 type Alter = fn(&mut [u32; 6], &mut [u32], &mut [u32]);
@@ -30,6 +40,7 @@ type AlterNearest = fn(&mut [u32; 2], &[u32], [u32; 2]);
 type AlterCount = fn(&mut [u32; 2], &[u8]);
 
 struct Wrong {
+    given: AlterGiven,
     load: Alter,
     query: AlterQuery,
     size: AlterSize,
@@ -40,6 +51,7 @@ struct Wrong {
 
 /// The library with nothing altered.
 const RIGHT: Wrong = Wrong {
+    given: |_, _| (),
     load: |_, _, _| (),
     query: |answer, _, _| answer,
     size: |_, _, _| (),
@@ -50,7 +62,9 @@ const RIGHT: Wrong = Wrong {
 
 impl Loader for Wrong {
     fn load(&self, sheet: &[u8], hosts: &[u8], table: &mut [u32], work: &mut [u32]) -> [u32; 6] {
-        let mut numbers = Library.load(sheet, hosts, table, work);
+        let (mut sheet, mut hosts) = (sheet.to_vec(), hosts.to_vec());
+        (self.given)(&mut sheet, &mut hosts);
+        let mut numbers = Library.load(&sheet, &hosts, table, work);
         (self.load)(&mut numbers, table, work);
         numbers
     }
@@ -207,8 +221,10 @@ fn a_word_of_the_table() {
             table[30] = 0;
         }
     };
-    for alter in [global, post] {
-        assert_says(&caught(alter), "by the reference Some");
+    for load in [global, post] {
+        // One of edition 1, and one of edition 2.
+        let ways = ["by the reference Some", "by the format Some"];
+        assert_caught(&Wrong { load, ..RIGHT }, &ways);
     }
     for alter in [after, end, refused] {
         assert_says(&caught(alter), "is changed");
@@ -254,8 +270,8 @@ fn a_word_of_the_table_that_the_reference_does_not_have() {
         |n, table, _| to_lengths(n, table, |length| length.min(254)),
         |n, table, _| to_lengths(n, table, |_| 0),
     ];
-    for alter in third {
-        assert_says(&caught(alter), "by declared parents");
+    for load in third {
+        assert_caught(&Wrong { load, ..RIGHT }, &["by declared parents"]);
     }
 }
 
@@ -665,6 +681,81 @@ fn a_count_of_structs() {
         |count, sheet| count[1] *= u32::from(loaded(sheet) == 0),
         |count, _| count[0] = 0,
         |count, _| *count = [1, 0],
+    ];
+    for alter in alters {
+        assert_says(&caught_count(alter), "structs: answered");
+    }
+}
+
+/// The edition word of whole blocks made another, where it is this.
+fn relabel(bytes: &mut Vec<u8>, from: u32, to: u32) {
+    if read_blocks(bytes).is_some_and(|words| words[0] == from) {
+        *bytes = with_edition(bytes, to);
+    }
+}
+
+/// Edition 2 read as edition 1 where no more structs than these are on a chain.
+fn second_held_to(sheet: &mut Vec<u8>, most: u32) {
+    let mut first = sheet.clone();
+    relabel(&mut first, 2, 1);
+    let lengths = decode_sheet(&first).map(|(plain, _)| chain_lengths(&plain));
+    if lengths.is_some_and(|all| all.iter().all(|&length| length <= most)) {
+        *sheet = first;
+    }
+}
+
+/// A struct of edition 2 with 64 types on its chain made its own parent, which is too long under every limit.
+fn second_held_to_63(sheet: &mut Vec<u8>) {
+    let Some((mut plain, _)) = decode_sheet(sheet) else {
+        return;
+    };
+    let longest = chain_lengths(&plain).iter().position(|&n| n == 64);
+    if let (Edition::Second, Some(t)) = (plain.edition, longest) {
+        if let TypeEntry::Struct { parent, .. } = &mut plain.types[t] {
+            *parent = Some(t as u32);
+        }
+        *sheet = encode_sheet(&plain).to_bytes();
+    }
+}
+
+#[test]
+fn an_edition() {
+    let alters: [(AlterGiven, &str); 9] = [
+        // Limits of 65 and of 63 in edition 2; a last number met that does not count where it is no struct.
+        (|sheet, _| second_held_to(sheet, 65), "expected [17, 0, "),
+        (|sheet, _| second_held_to_63(sheet), "answered [17, 0, "),
+        (|sheet, _| second_held_to(sheet, 64), "answered [16, 0, "),
+        // One limit for both: 256, and 64.
+        (|sheet, _| relabel(sheet, 2, 1), "expected [17, 0, "),
+        (|sheet, _| relabel(sheet, 1, 2), "answered [17, 0, "),
+        // Edition 2 not taken; 3 and 0 taken.
+        (|sheet, _| relabel(sheet, 2, 3), "answered [1, 0, "),
+        (|sheet, _| relabel(sheet, 3, 2), "expected [1, 0, "),
+        (|sheet, _| relabel(sheet, 0, 1), "expected [1, 0, "),
+        // A host list of edition 2 taken.
+        (|_, hosts| relabel(hosts, 2, 1), "expected [23, 0, "),
+    ];
+    for (given, part) in alters {
+        let wrong = Wrong { given, ..RIGHT };
+        let found = run(&wrong, &LONG_PLAN).expect_err("a difference");
+        assert_says(&found.what, part);
+    }
+}
+
+#[test]
+fn a_count_in_an_edition() {
+    let alters: [AlterCount; 2] = [
+        // Edition 2 as a broken layout, and edition 3 as a whole one.
+        |count, sheet| {
+            if decode_sheet(sheet).is_some_and(|(plain, _)| plain.edition == Edition::Second) {
+                *count = [1, 0];
+            }
+        },
+        |count, sheet| {
+            let mut sheet = sheet.to_vec();
+            relabel(&mut sheet, 3, 2);
+            *count = Library.count_structs(&sheet);
+        },
     ];
     for alter in alters {
         assert_says(&caught_count(alter), "structs: answered");

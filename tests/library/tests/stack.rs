@@ -3,7 +3,7 @@
 use std::thread;
 
 use sheets::build::{structure, user};
-use sheets::{encode_hosts, encode_sheet, refit, Sheet};
+use sheets::{encode_hosts, encode_sheet, refit, with_edition, Sheet};
 use versus::{Library, Loader};
 
 /// What the bindings say of short host lists, and something for the thread itself.
@@ -57,8 +57,15 @@ fn list(entries: usize) -> Vec<u8> {
 
 #[test]
 fn the_longest_chains_fit_the_stack() {
-    for (types, kind) in [(256, 0), (257, 17)] {
-        assert_eq!(kind_on(STACK, chain(types), list(0)), kind);
+    for (edition, types, kind) in [
+        (1, 256, 0),
+        (1, 257, 17),
+        (2, 64, 0),
+        (2, 65, 17),
+        (2, 257, 17),
+    ] {
+        let sheet = with_edition(&chain(types), edition);
+        assert_eq!(kind_on(STACK, sheet, list(0)), kind);
     }
 }
 

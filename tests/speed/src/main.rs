@@ -66,7 +66,8 @@ impl Lent {
         let words = self.table.len() as u32;
         let (sheet, hosts) = (black_box(&self.sheet), black_box(&self.hosts));
         let loaded = compare::load(sheet, hosts, words, words);
-        loaded.expect("an accepted sheet").program
+        let program = loaded.expect("an accepted sheet").into_program();
+        program.expect("a sheet of edition 1")
     }
 }
 

@@ -26,17 +26,14 @@ word-requires c κs = search needs
 returns-5 : tie.Need-returns-5
 returns-5 c = search (needs, framing, not-true, not-false)
 
+returns-6 : tie.Need-returns-6
+returns-6 c = search (needs, framing, not-true, not-false)
+
 word-requires-2 : tie.Need-word-requires-2
 word-requires-2 c κs = search needs
 
 cast-n : tie.Need-cast-n
 cast-n c = search needs
-
-mul-if6 : tie.Need-mul-if6
-mul-if6 c = search needs
-
-returns-6 : tie.Need-returns-6
-returns-6 c = search (needs, framing, not-true, not-false)
 
 mul-if7 : tie.Need-mul-if7
 mul-if7 c = search needs
@@ -44,14 +41,20 @@ mul-if7 c = search needs
 returns-7 : tie.Need-returns-7
 returns-7 c = search (needs, framing, not-true, not-false)
 
-is-zero-from-requires : tie.Need-is-zero-from-requires
-is-zero-from-requires c κs = search needs
+mul-if8 : tie.Need-mul-if8
+mul-if8 c = search needs
 
 returns-8 : tie.Need-returns-8
 returns-8 c = search (needs, framing, not-true, not-false)
 
+is-zero-from-requires : tie.Need-is-zero-from-requires
+is-zero-from-requires c κs = search needs
+
 returns-9 : tie.Need-returns-9
 returns-9 c = search (needs, framing, not-true, not-false)
+
+returns-10 : tie.Need-returns-10
+returns-10 c = search (needs, framing, not-true, not-false)
 
 pub read-frame-spec : {M : Type 1} → statement M
 read-frame-spec =
@@ -64,12 +67,13 @@ read-frame-spec =
     returns-4
     word-requires
     returns-5
+    returns-6
     word-requires-2
     cast-n
-    mul-if6
-    returns-6
     mul-if7
     returns-7
-    is-zero-from-requires
+    mul-if8
     returns-8
-    returns-9)
+    is-zero-from-requires
+    returns-9
+    returns-10)

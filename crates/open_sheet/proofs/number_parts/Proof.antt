@@ -39,13 +39,25 @@ mul-fill : tie.Need-mul-fill
 mul-fill c = search needs
 
 fill-requires : tie.Need-fill-requires
-fill-requires c κs = marks-asked _ _ _ (c .before .before .before .before .before .before .before .before .before .before .before .before .before .pre .0) (c .before .before .before .before .before .before .before .before .before .before .before .before .before .pre .1 .0) _ (c .before .before .before .before .before .before .before .before .before .before .before .before .before .pre .1 .1 .0) _ (c .before .before .before .before .before .before .before .before .before .before .before .before .before .pre .1 .1 .1) _ (c .before .before .before .before .before .before .before .canonical .ensures) _ (c .before .before .before .canonical2 .ensures)
+fill-requires c κs =
+    let first = c .before .before .before .before .before .before .before in
+    let start = first .before .before .before .before .before .before in
+    let p = start .pre in
+    marks-asked _ _ _ (p .0) (p .1 .0) _ (p .1 .1 .0) _ (p .1 .1 .1 .0) _
+    (first .canonical .ensures) _ (c .before .before .before .canonical2 .ensures)
 
 same-length : tie.Need-same-length
 same-length c = search needs
 
 returns : tie.Need-returns
-returns c = ready-made _ _ _ (c .before .before .before .before .before .before .before .before .before .before .before .before .before .before .before .before .pre .0) (c .before .before .before .before .before .before .before .before .before .before .before .before .before .before .before .before .pre .1 .0) _ (c .before .before .before .before .before .before .before .before .before .before .before .before .before .before .before .before .pre .1 .1 .0) _ (c .before .before .before .before .before .before .before .before .before .before .before .before .before .before .before .before .pre .1 .1 .1) _ (c .before .before .before .before .before .before .before .before .before .before .canonical .ensures) _ (c .before .before .before .before .before .before .canonical2 .ensures) _ (c .before .before .fill .ensures .0) (c .before .before .fill .ensures .1)
+returns c =
+    let first = c .before .before .before .before .before .before .before .before .before .before in
+    let start = first .before .before .before .before .before .before in
+    let p = start .pre in
+    let filled = c .before .before .fill .ensures in
+    ready-made _ _ _ (p .0) (p .1 .0) _ (p .1 .1 .0) _ (p .1 .1 .1 .0) _
+    (first .canonical .ensures) _ (c .before .before .before .before .before .before .canonical2 .ensures) _
+    (filled .0) (filled .1) (p .1 .1 .1 .1)
 
 pub number-parts-spec : {M : Type 1} → statement M
 number-parts-spec =

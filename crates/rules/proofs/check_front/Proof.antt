@@ -20,8 +20,8 @@ same-length c = search (needs, front-order)
 returns : tie.Need-returns
 returns c = search (needs, front-order)
 
-check-parents-requires : tie.Need-check-parents-requires
-check-parents-requires c κs = search (needs, front-order)
+check-chains-requires : tie.Need-check-chains-requires
+check-chains-requires c κs = search (needs, front-order)
 
 enum-told-2 : tie.Need-enum-told-2
 enum-told-2 c = search (needs, front-order)
@@ -53,7 +53,7 @@ check-front-spec =
     enum-known-e
     same-length
     returns
-    check-parents-requires
+    check-chains-requires
     enum-told-2
     enum-known-e-2
     same-length-2

@@ -4,7 +4,6 @@ use native.Mathlib.Omega.{arith}
 use Prim.Native.Nat.{ℕ, _<_, _-_}
 use Rattle.blocks.specs.Frame.{firstWords}
 use Rattle.open_layout.specs.Opened.{moduleIn}
-use Rattle.parents.specs.Parents.{mostOnChain}
 use Rattle.table_spans.specs.Walked.{Walking}
 use Rattle.table_spans.proofs.WalkSteps.{head-room, walk-start, walk-end, left-some, left-few, clock-few, entered}
 use Rattle.table_spans.proofs.WalkSteps.{sibling-room, rising, span-room, after-few, walk-next}
@@ -32,11 +31,11 @@ abbrev calls : ℕ → lts.Claims
 calls n = (widen-reads.Asked, widen-reads.Learnt, pre-below n, visit.Post, store-span-reads.Asked, store-span-reads.Learnt)
 
 abbrev Inv-loop : lts.InvT-loop
-Inv-loop sheet work o table₀ at list clock left now₀ t₀ table now t =
-    Walking mostOnChain (moduleIn (firstWords sheet (o .layout .words)) .types) o work at list left clock table₀ table t now
+Inv-loop sheet work o table₀ at list clock left most now₀ t₀ table now t =
+    Walking most (moduleIn (firstWords sheet (o .layout .words)) .types) o work at list left clock table₀ table t now
 
 abbrev μ-loop : lts.MeasureT-loop
-μ-loop sheet work o table₀ at list clock left now₀ t₀ table now t = o .counts .types - t
+μ-loop sheet work o table₀ at list clock left most now₀ t₀ table now t = o .counts .types - t
 
 -- n steps are left; `turn` is the place behind the loop's test, `start` the function's
 module _ (n : ℕ) where
@@ -98,6 +97,9 @@ module _ (n : ℕ) where
       let start = turn .before .before .before .before .before .before .before .before .before in
       omega (arith, turn .before .before .loop .inv .room, turn .if1 .taken, start .good .1 .1 .1 .0)
 
+  add-store-span-3 : lts.Need-add-store-span-3 (calls n) (pre-at n) visit.Post Inv-loop μ-loop
+  add-store-span-3 c = search needs
+
   sub-store-span : lts.Need-sub-store-span (calls n) (pre-at n) visit.Post Inv-loop μ-loop
   sub-store-span c =
       let turn = c .before .before .before .before .before in
@@ -108,11 +110,12 @@ module _ (n : ℕ) where
       let turn = c .before .before .before .before .before in
       let y = turn .before .before .loop .inv in
       let h = turn .if1 .taken in
+      let start = turn .before .before .before .before .before .before .before .before .before in
       let below = c .before .before .before .visit .ensures in
       let few = turn .before .struct-known2 .given in
       let room = span-room y h _ _ (below .0) (below .1) in
       let after = after-few y h _ _ (below .0) (below .1) in
-      (room, (omega (arith, clock-few y h, few), (omega (arith, after, few), omega arith)))
+      (room, (omega (arith, clock-few y h, few), (omega (arith, after, few), omega (arith, left-some y h, start .good))))
 
   mul-widen-3 : lts.Need-mul-widen-3 (calls n) (pre-at n) visit.Post Inv-loop μ-loop
   mul-widen-3 c =
@@ -174,6 +177,7 @@ pub +visit-spec : {M : Type 1} → statement M
     (add-store-span n)
     (mul-store-span n)
     (add-store-span-2 n)
+    (add-store-span-3 n)
     (sub-store-span n)
     (store-span-requires n)
     (mul-widen-3 n)

@@ -8,6 +8,9 @@ use Rattle.table_spans.proofs.write_spans.Tie as tie
 cast-n : tie.Need-cast-n
 cast-n c = search needs
 
+most-on-chain-requires : tie.Need-most-on-chain-requires
+most-on-chain-requires c κs = search needs
+
 link-all-requires : tie.Need-link-all-requires
 link-all-requires c κs = search needs
 
@@ -23,19 +26,19 @@ visit-requires c κs = (search needs, (search (needs, walks-all), (search needs,
 add-result : tie.Need-add-result
 add-result c =
     let counted = c .before .before .before .before .before .before .before .before .before .before .before in
-    let start = counted .before .before .before .before .before .before .before .before .before .before in
+    let start = counted .before .before .before .before .before .before .before .before .before .before .before in
     omega (arith, section-size (start .pre .0), start .pre .1 .1, start .good .1 .1 .1 .0)
 
 mul-result : tie.Need-mul-result
 mul-result c =
     let counted = c .before .before .before .before .before .before .before .before .before .before .before in
-    let start = counted .before .before .before .before .before .before .before .before .before .before in
+    let start = counted .before .before .before .before .before .before .before .before .before .before .before in
     omega (arith, section-size (start .pre .0), start .pre .1 .1, start .good .1 .1 .1 .0)
 
 add-result-2 : tie.Need-add-result-2
 add-result-2 c =
     let counted = c .before .before .before .before .before .before .before .before .before .before .before in
-    let start = counted .before .before .before .before .before .before .before .before .before .before in
+    let start = counted .before .before .before .before .before .before .before .before .before .before .before in
     omega (arith, section-size (start .pre .0), start .pre .1 .1, start .good .1 .1 .1 .0)
 
 same-length : tie.Need-same-length
@@ -52,6 +55,7 @@ write-spans-spec =
     tie.close
     (tie.spec
     cast-n
+    most-on-chain-requires
     link-all-requires
     put-requires
     blank-spans-requires

@@ -1,12 +1,14 @@
-//! The answer to a sheet: layout (1), host list (23), lengths (24), then `Program::load`.
+//! The answer to a sheet: layout (1), host list (23), lengths (24), then `Program::load`, or for the second edition the format
+//! written out.
 
 use bvm_lang::{six_numbers, Program};
 use sheets::{
     decode_hosts, decode_sheet, encode_hosts, encode_sheet, needed, rust_host, rust_module,
-    HostEntry, Sheet,
+    Edition, HostEntry, Sheet,
 };
 
-use crate::Accepted;
+use crate::table::Made;
+use crate::{by_format, Accepted};
 
 /// The six numbers, and the table's words when the sheet is accepted.
 #[derive(Clone, Debug, PartialEq, Eq)]
@@ -15,7 +17,7 @@ pub struct Answer {
     pub table: Option<Vec<u32>>,
 }
 
-/// What the reference loader answers, given the lengths of the lent slices in words.
+/// What a loader is to answer, given the lengths of the lent slices in words.
 pub fn answer(sheet: &[u8], hosts: &[u8], table_len: u32, work_len: u32) -> Answer {
     match load(sheet, hosts, table_len, work_len) {
         Err(numbers) => Answer {
@@ -39,15 +41,21 @@ pub fn answer_plain(sheet: &Sheet, hosts: &[HostEntry]) -> Answer {
     answer(&sheet, &hosts, u32::MAX, u32::MAX)
 }
 
-/// What the reference makes of the sheet, or the six numbers of the refusal.
+/// What is made of the sheet, or the six numbers of the refusal.
 pub fn load(
-    sheet: &[u8],
+    bytes: &[u8],
     hosts: &[u8],
     table_len: u32,
     work_len: u32,
 ) -> Result<Accepted, [u32; 6]> {
     let only = |kind| [kind, 0, 0, 0, 0, 0];
-    let (sheet, n) = decode_sheet(sheet).ok_or(only(1))?;
+    let (sheet, n) = decode_sheet(bytes).ok_or(only(1))?;
+    // program.rs has the limit of the first edition, and stays as it is.
+    if sheet.edition != Edition::First {
+        let Answer { numbers, table } = by_format(bytes, hosts, table_len, work_len);
+        let made = Made::Format(table.ok_or(numbers)?);
+        return Ok(Accepted { sheet, made });
+    }
     let host = decode_hosts(hosts)
         .and_then(|entries| rust_host(&entries))
         .ok_or(only(23))?;
@@ -57,8 +65,10 @@ pub fn load(
     match Program::load(rust_module(&sheet), &host) {
         Ok(program) => Ok(Accepted {
             sheet,
-            program,
-            host,
+            made: Made::Rust {
+                program: Box::new(program),
+                host,
+            },
         }),
         Err(error) => Err(six_numbers(&error, |module, name| {
             string_numbers(&sheet, module, name)

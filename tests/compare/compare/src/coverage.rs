@@ -4,7 +4,8 @@ use std::fmt;
 
 use sheets::{decode_sheet, Sheet};
 
-use crate::{chain_lengths, Answer};
+use crate::editions::Editions;
+use crate::lengths::longest_chain;
 
 /// Kinds that a sheet, a host list or lengths can meet: 0 to 24 (25 is the query's, 26 cannot occur).
 const KINDS: usize = 25;
@@ -15,7 +16,7 @@ pub const FULL_RUN: u64 = 5000;
 /// The longest chain of a sheet: it has no struct, roots alone, something between, or is at the limit or just below.
 const CHAINS: [&str; 4] = ["0", "1", "2-253", "254-256"];
 
-/// Hits by kind, by word of kinds 3 and 11, and of accepted sheets by operation code and by the longest chain.
+/// Hits by kind, by word of kinds 3 and 11, of accepted sheets by operation code and by the longest chain, and by edition.
 #[derive(Clone, Debug)]
 pub struct Coverage {
     kinds: [u64; KINDS],
@@ -23,6 +24,7 @@ pub struct Coverage {
     wrong_type_kind: [u64; 4],
     codes: [u64; 35],
     chains: [u64; CHAINS.len()],
+    editions: Editions,
 }
 
 impl Default for Coverage {
@@ -33,37 +35,33 @@ impl Default for Coverage {
             wrong_type_kind: [0; 4],
             codes: [0; 35],
             chains: [0; CHAINS.len()],
+            editions: Editions::default(),
         }
     }
 }
 
 impl Coverage {
-    /// Counts an answer to a sheet.
-    pub fn add(&mut self, sheet: &[u8], answer: &Answer) {
-        let sheet = answer.table.as_ref().and_then(|_| decode_sheet(sheet));
-        self.add_numbers(answer.numbers, sheet.as_ref().map(|(sheet, _)| sheet));
-    }
-
-    /// Counts the six numbers, and the codes and the longest chain of the sheet if it is an accepted one.
-    pub fn add_numbers(&mut self, [kind, word, ..]: [u32; 6], accepted: Option<&Sheet>) {
+    /// Counts the six numbers of a sheet under a host list, and its codes and longest chain if it is accepted.
+    pub fn add(&mut self, sheet: &[u8], hosts: &[u8], [kind, word, ..]: [u32; 6]) {
+        self.editions.add(sheet, hosts, kind);
         self.kinds[kind as usize] += 1;
         match kind {
             3 => self.out_of_range[word as usize - 1] += 1,
             11 => self.wrong_type_kind[word as usize - 1] += 1,
             _ => {}
         }
-        if let Some(sheet) = accepted {
-            self.add_codes(sheet);
-            self.add_chain(sheet);
+        if let Some((sheet, _)) = decode_sheet(sheet).filter(|_| kind == 0) {
+            self.add_codes(&sheet);
+            self.add_chain(&sheet);
         }
     }
 
     fn add_chain(&mut self, sheet: &Sheet) {
-        let place = match chain_lengths(sheet).into_iter().max() {
-            None | Some(0) => 0,
-            Some(1) => 1,
-            Some(2..=253) => 2,
-            Some(_) => 3,
+        let place = match longest_chain(sheet) {
+            0 => 0,
+            1 => 1,
+            2..=253 => 2,
+            _ => 3,
         };
         self.chains[place] += 1;
     }
@@ -88,6 +86,7 @@ impl Coverage {
         both(&mut self.wrong_type_kind, &other.wrong_type_kind);
         both(&mut self.codes, &other.codes);
         both(&mut self.chains, &other.chains);
+        self.editions.merge(&other.editions);
     }
 
     /// What no case has hit, in words.
@@ -105,6 +104,7 @@ impl Coverage {
         let chains = CHAINS.iter().zip(self.chains);
         let unmet = chains.filter(|&(_, hits)| hits == 0);
         missed.extend(unmet.map(|(length, _)| format!("accepted longest chain {length}")));
+        missed.extend(self.editions.missed());
         missed
     }
 }
@@ -125,6 +125,7 @@ impl fmt::Display for Coverage {
         row("accepted sheets with code", 0, &self.codes)?;
         let chains = CHAINS.iter().zip(self.chains);
         let cells: Vec<_> = chains.map(|(length, h)| format!("{length}:{h}")).collect();
-        writeln!(f, "accepted sheets by longest chain {}", cells.join(" "))
+        writeln!(f, "accepted sheets by longest chain {}", cells.join(" "))?;
+        self.editions.fmt(f)
     }
 }

@@ -4,9 +4,6 @@ use std::iter::successors;
 
 use sheets::{Sheet, TypeEntry};
 
-/// The most types on a chain of an accepted sheet: no longer walk is needed.
-const MOST_ON_CHAIN: usize = 256;
-
 /// The parent that a struct type declares, if it declares one; none at all for what is no struct.
 pub(crate) fn parent_of(sheet: &Sheet, t: u32) -> Option<Option<u32>> {
     match sheet.types.get(t as usize) {
@@ -15,11 +12,12 @@ pub(crate) fn parent_of(sheet: &Sheet, t: u32) -> Option<Option<u32>> {
     }
 }
 
-/// A struct type, then those that its declared parents lead to; none for what is no struct.
+/// A struct type, then those that its declared parents lead to, as far as an accepted sheet has them; none for what is no struct.
 pub fn chain(sheet: &Sheet, t: u32) -> impl Iterator<Item = u32> + '_ {
     let entry = |n| parent_of(sheet, n).map(|parent| (n, parent));
     let walk = successors(entry(t), move |&(_, parent)| parent.and_then(entry));
-    walk.map(|(n, _)| n).take(MOST_ON_CHAIN)
+    let most = sheet.edition.most_on_chain() as usize;
+    walk.map(|(n, _)| n).take(most)
 }
 
 /// Whether both numbers are struct types and `a` is `t` or is reached from it by declared parents.

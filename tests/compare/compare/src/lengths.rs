@@ -11,6 +11,11 @@ pub fn chain_lengths(sheet: &Sheet) -> Vec<u32> {
     types.map(|t| chain(sheet, t).count() as u32).collect()
 }
 
+/// The longest of them, 0 where there is no struct.
+pub(crate) fn longest_chain(sheet: &Sheet) -> u32 {
+    chain_lengths(sheet).into_iter().max().unwrap_or(0)
+}
+
 #[cfg(test)]
 mod tests {
     use super::*;

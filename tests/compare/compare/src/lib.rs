@@ -1,8 +1,10 @@
 //! The reference loader's answers to sheets, and what other loaders are compared with.
 
 mod answer;
+mod by_format;
 mod coverage;
 mod descent;
+mod editions;
 mod families;
 #[cfg(test)]
 mod forests;
@@ -18,8 +20,10 @@ mod table;
 mod words;
 
 pub use answer::{answer, answer_plain, load, Answer};
+pub use by_format::by_format;
 pub use coverage::{Coverage, FULL_RUN};
 pub use descent::{chain, descends_by_parents, image};
+pub use editions::shown_border;
 pub use families::{family_sizes, is_root, report, struct_count};
 pub use lengths::chain_lengths;
 pub use linked::Linked;

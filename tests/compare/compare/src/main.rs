@@ -5,8 +5,8 @@ use std::io::Write;
 use std::process::ExitCode;
 
 use compare::{
-    answer, describe_case, hold_reports, line_of, read_cases, report, write_cases, Coverage,
-    Options, StoredCase, FULL_RUN,
+    answer, describe_case, hold_reports, line_of, read_cases, report, shown_border, write_cases,
+    Coverage, Options, StoredCase, FULL_RUN,
 };
 use generator::case;
 use sheets::BLOCK;
@@ -98,7 +98,7 @@ fn coverage(seed: u64, cases: u64) -> Result<(), String> {
     for index in 0..cases {
         let case = case(seed, index);
         let answer = answer(&case.sheet, &case.hosts, case.table_len, case.work_len);
-        coverage.add(&case.sheet, &answer);
+        coverage.add(&case.sheet, &case.hosts, answer.numbers);
     }
     print(&coverage.to_string())?;
     let missed = coverage.missed();
@@ -108,9 +108,9 @@ fn coverage(seed: u64, cases: u64) -> Result<(), String> {
     Ok(())
 }
 
-/// Cases of a seed whose sheet and host list have at most so many bytes, spread over kinds and words.
+/// Cases of a seed whose sheet and host list have at most so many bytes, spread over kinds, words and borders of the editions.
 fn small_cases(seed: u64, count: u64, most_bytes: usize) -> Vec<StoredCase> {
-    let mut taken: HashMap<(u32, u32), u64> = HashMap::new();
+    let mut taken: HashMap<_, u64> = HashMap::new();
     let mut cases = Vec::new();
     for index in 0.. {
         if cases.len() as u64 == count {
@@ -122,10 +122,12 @@ fn small_cases(seed: u64, count: u64, most_bytes: usize) -> Vec<StoredCase> {
         }
         let answer = answer(&c.sheet, &c.hosts, c.table_len, c.work_len);
         let [kind, word, ..] = answer.numbers;
-        // A third may be accepted; another kind or word gets one in 60, and more once all were met.
-        let share = if kind == 0 { count / 3 } else { count / 60 };
+        let border = shown_border(&c.sheet, &c.hosts, kind);
+        // A third may be accepted; another kind, word or border gets one in 75, and more once all were met.
+        let plain = kind == 0 && border.is_none();
+        let share = if plain { count / 3 } else { count / 75 };
         let most = share.max(1) + index / 5_000;
-        let taken = taken.entry((kind, word)).or_default();
+        let taken = taken.entry((kind, word, border)).or_default();
         if *taken < most {
             *taken += 1;
             cases.push(StoredCase {
@@ -170,7 +172,7 @@ fn check(path: &str) -> Result<(), String> {
         if found.table != c.answer.table {
             return Err(format!("case {k}: the tables differ"));
         }
-        coverage.add(&c.sheet, &found);
+        coverage.add(&c.sheet, &c.hosts, found.numbers);
     }
     print(&format!("{} cases agree\n{coverage}", cases.len()))
 }

@@ -1,27 +1,52 @@
 //! The linked table that an accepted sheet is to get: what the Rust has of it, and the words that are held to something else.
 
 use bvm_lang::{rust_words, Host, Program};
-use sheets::Sheet;
+use sheets::{Edition, Sheet};
 
 use crate::chain_lengths;
 
 /// The first word of a linked table.
 pub(crate) const FIRST_WORD: u32 = 2;
 
-/// A sheet that the reference accepts, and what it makes of it.
+/// A sheet that is accepted, and what is made of it.
 pub struct Accepted {
     pub sheet: Sheet,
-    pub program: Program,
-    pub host: Host,
+    pub(crate) made: Made,
+}
+
+/// What the judge of an edition makes of a sheet.
+pub(crate) enum Made {
+    /// The Rust, of the first.
+    Rust { program: Box<Program>, host: Host },
+    /// The format written out, of the second: the table.
+    Format(Vec<u32>),
 }
 
 impl Accepted {
     /// The words that a loader is to write.
     pub fn table(&self) -> Vec<u32> {
-        completed(
-            &rust_words(&self.program, &self.host),
-            &chain_lengths(&self.sheet),
-        )
+        match &self.made {
+            Made::Rust { program, host } => {
+                completed(&rust_words(program, host), &chain_lengths(&self.sheet))
+            }
+            Made::Format(table) => table.clone(),
+        }
+    }
+
+    /// What the Rust makes of it, of the first edition.
+    pub fn program(&self) -> Option<&Program> {
+        match &self.made {
+            Made::Rust { program, .. } => Some(program.as_ref()),
+            Made::Format(_) => None,
+        }
+    }
+
+    /// The same, for who keeps nothing else.
+    pub fn into_program(self) -> Option<Program> {
+        match self.made {
+            Made::Rust { program, .. } => Some(*program),
+            Made::Format(_) => None,
+        }
     }
 }
 
@@ -44,7 +69,10 @@ fn first_span(words: &[u32]) -> usize {
 }
 
 /// What says which word is to stand at this place of a table.
-pub fn said_by(table: &[u32], place: usize) -> &'static str {
+pub fn said_by(edition: Edition, table: &[u32], place: usize) -> &'static str {
+    if edition != Edition::First {
+        return "by the format";
+    }
     match place.checked_sub(first_span(table)) {
         Some(at) if at % 3 == 2 => "by declared parents",
         None if place == 0 => "by the format",
@@ -76,19 +104,20 @@ mod tests {
     #[test]
     fn only_the_first_word_the_length_and_third_words_are_not_the_references() {
         let accepted = accepted(&mixed());
-        let (rust, table) = (
-            rust_words(&accepted.program, &accepted.host),
-            accepted.table(),
-        );
-        let of_reference = |words: &[u32]| -> Vec<u32> {
-            let places = (0..words.len()).filter(|&k| said_by(words, k) == "by the reference");
-            places.map(|k| words[k]).collect()
+        let Made::Rust { program, host } = &accepted.made else {
+            panic!("the Rust judges the first edition");
         };
-        assert_eq!(of_reference(&table)[..], rust[2..]);
+        let (rust, table) = (rust_words(program, host), accepted.table());
+        let says = |place| said_by(Edition::First, &table, place);
+        let of_reference: Vec<u32> = (0..table.len())
+            .filter(|&k| says(k) == "by the reference")
+            .map(|k| table[k])
+            .collect();
+        assert_eq!(of_reference[..], rust[2..]);
         assert_eq!((table[0], table[1] as usize), (2, rust.len() + 11));
         assert_eq!(table.len(), rust.len() + 11);
         let last = table.len() - 1;
-        let told = [0, 1, 2, last - 2, last - 1, last].map(|k| said_by(&table, k));
+        let told = [0, 1, 2, last - 2, last - 1, last].map(says);
         let (reference, parents) = ("by the reference", "by declared parents");
         let length = "by the reference's length and the number of types";
         assert_eq!(
@@ -101,6 +130,23 @@ mod tests {
                 reference,
                 parents
             ]
+        );
+    }
+
+    #[test]
+    fn the_format_has_all_words_of_the_second_edition() {
+        let second = Sheet {
+            edition: Edition::Second,
+            ..mixed()
+        };
+        let [first, second] = [mixed(), second].map(|sheet| accepted(&sheet));
+        assert!(first.program().is_some() && second.program().is_none());
+        // The first word is the table's and not the edition.
+        assert_eq!(second.table(), first.table());
+        assert_eq!(second.table()[0], 2);
+        assert_eq!(
+            said_by(Edition::Second, &second.table(), 2),
+            "by the format"
         );
     }
 

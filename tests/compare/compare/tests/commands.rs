@@ -48,13 +48,14 @@ fn wrong_arguments_end_with_2() {
 fn coverage_prints_every_kind() {
     let text = stdout(&["coverage", "--seed", "1", "--cases", "50"]);
     let lines: Vec<_> = text.lines().collect();
-    assert_eq!(lines.len(), 5);
+    assert_eq!(lines.len(), 6);
     assert!(lines[0].starts_with("kind 0:") && lines[0].contains(" 24:"));
     assert!(lines[1].contains(" 14:"));
     assert!(
         lines[4].starts_with("accepted sheets by longest chain 0:")
             && lines[4].contains(" 254-256:")
     );
+    assert!(lines[5].starts_with("editions edition 1 accepted:"));
 }
 
 #[test]

@@ -34,11 +34,10 @@ fn agree(rng: &mut Rng, sheet: &Sheet, bytes: &[u8], hosts: &[u8]) -> bool {
                 u32::from(declared),
                 "{t} from {a}: {sheet:?}"
             );
-            assert_eq!(
-                descends(&accepted.program, t, a),
-                declared,
-                "{t} from {a}: {sheet:?}"
-            );
+            if let Some(program) = accepted.program() {
+                let by_rust = descends(program, t, a);
+                assert_eq!(by_rust, declared, "{t} from {a}: {sheet:?}");
+            }
         }
     }
     true

@@ -3,8 +3,8 @@
 use compare::{answer, answer_plain};
 use sheets::build::{abc, aw, func, function, ret_void, scheduler, strings, user};
 use sheets::{
-    check_word, encode_hosts, encode_sheet, op, refit, write_blocks, Function, HostEntry, Role,
-    ShapeEntry, Sheet, DYN,
+    check_word, encode_hosts, encode_sheet, op, refit, write_blocks, Edition, Function, HostEntry,
+    Role, ShapeEntry, Sheet, DYN,
 };
 
 fn kind(sheet: &[u8], hosts: &[u8]) -> u32 {
@@ -32,6 +32,7 @@ fn every_list() -> Sheet {
     use sheets::build::{hook_function, import};
     use sheets::{Constant, Export, ExportKind, Global, TypeEntry};
     Sheet {
+        edition: Edition::First,
         strings: strings(&["abc"]),
         types: vec![func(&[DYN], &[DYN]), TypeEntry::Array(DYN)],
         constants: vec![Constant::Plain(1, 2)],
@@ -122,7 +123,7 @@ fn unlisted_codes() {
     let mut tried = 0;
     for (at, role) in words.roles.iter().enumerate() {
         let unlisted: &[u32] = match role {
-            Role::Edition => &[0, 2, u32::MAX],
+            Role::Edition => &[0, 3, u32::MAX],
             Role::TypeKind => &[7, 255, u32::MAX],
             Role::ConstantKind => &[4, u32::MAX],
             Role::ValueType => &[13, 14, 15],

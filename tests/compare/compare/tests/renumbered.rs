@@ -5,12 +5,13 @@ use compare::{
     pair_difference, query,
 };
 use generator::{pair, Pair, Rng};
-use sheets::{encode_sheet, renumber};
+use sheets::{encode_sheet, renumber, Edition};
 
 /// What a pair's two answers were: both accepted, or the two kinds.
 fn compare_pair(pair: &Pair, index: u64) -> (u32, u32) {
     let n = |sheet| encode_sheet(sheet).words.len();
     assert_eq!(n(&pair.first.sheet), n(&pair.second.sheet));
+    assert_eq!(pair.first.sheet.edition, pair.second.sheet.edition);
     let first = answer_plain(&pair.first.sheet, &pair.first.hosts);
     let second = answer_plain(&pair.second.sheet, &pair.second.hosts);
     let kinds = (first.numbers[0], second.numbers[0]);
@@ -35,8 +36,12 @@ fn compare_tables(pair: &Pair, a: &[u32], b: &[u32], index: u64) {
 #[test]
 fn pairs_agree_as_demand_3_says() {
     let (mut accepted, mut refused, mut other_kind) = (0, 0, 0);
+    let mut accepted_second = 0;
     for index in 0..30_000 {
-        let (first, second) = compare_pair(&pair(6, index), index);
+        let pair = pair(6, index);
+        let (first, second) = compare_pair(&pair, index);
+        let in_second = pair.first.sheet.edition == Edition::Second;
+        accepted_second += u32::from(in_second && first == 0);
         match first {
             0 => accepted += 1,
             _ => refused += 1,
@@ -46,6 +51,8 @@ fn pairs_agree_as_demand_3_says() {
     println!("{accepted} accepted, {refused} refused, {other_kind} of them by another kind");
     assert!(accepted >= 15_000, "{accepted} accepted");
     assert!(refused >= 5_000, "{refused} refused");
+    let in_each = accepted_second.min(accepted - accepted_second);
+    assert!(in_each >= 5_000, "{accepted_second} of the second edition");
     // The refusal's kind may differ, and now and then it does.
     assert!(other_kind > 0);
 }

@@ -2,7 +2,7 @@
 
 use sheets::build::{function, hook_function, ret_void, structure};
 use sheets::{
-    encode_hosts, encode_sheet, Constant, Export, ExportKind, Function, Global, HostEntry,
+    encode_hosts, encode_sheet, Constant, Export, ExportKind, Function, Global, HostEntry, Sheet,
     TypeEntry, ValueType, DYN,
 };
 
@@ -29,7 +29,7 @@ pub fn fill(rng: &mut Rng, draft: &mut Draft, words: usize) {
     match rng.below(11) {
         0 => sheet.types.extend((0..room).map(|_| TypeEntry::Coroutine)),
         1 => sheet.types.extend((0..room / 2).map(|_| array(rng, types))),
-        2 => add_structs(rng, &mut sheet.types, room / 5),
+        2 => add_structs(rng, sheet, room / 5),
         3 => sheet.strings.extend((0..room).map(|_| Vec::new())),
         4 if room > 8 => sheet.strings.push(long(rng, 4 * (room - 8))),
         5 => sheet
@@ -63,17 +63,18 @@ fn array(rng: &mut Rng, types: usize) -> TypeEntry {
     TypeEntry::Array(ValueType::reference(rng.index(types)))
 }
 
-/// A large forest with chains below 256.
-fn add_structs(rng: &mut Rng, types: &mut Vec<TypeEntry>, count: usize) {
-    let first = types.len();
-    let mut depth: Vec<u32> = Vec::new();
+/// A large forest with chains up to the limit.
+fn add_structs(rng: &mut Rng, sheet: &mut Sheet, count: usize) {
+    let (first, most) = (sheet.types.len(), sheet.edition.most_on_chain());
+    let mut length: Vec<u32> = Vec::new();
     for k in 0..count {
         let near = k.saturating_sub(rng.within(1, 4));
         let far = rng.below(k.max(1));
         let parent = rng.pick(&[near, near, far]);
-        let root = k == 0 || depth[parent] >= 255 || rng.one_in(2000);
-        depth.push(if root { 1 } else { depth[parent] + 1 });
-        types.push(structure((!root).then_some((first + parent) as u32), &[]));
+        let root = k == 0 || length[parent] >= most || rng.one_in(2000);
+        length.push(if root { 1 } else { length[parent] + 1 });
+        let parent = (!root).then_some((first + parent) as u32);
+        sheet.types.push(structure(parent, &[]));
     }
 }
 

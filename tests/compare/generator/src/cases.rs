@@ -2,9 +2,9 @@
 
 use sheets::{encode_hosts, encode_sheet, needed, renumber, HostEntry, Words, MOST_BLOCKS, WORDS};
 
-use crate::borders::{borders, several_faults, wide_borders, Border};
+use crate::borders::{at_border, borders, chains, several_faults, wide_borders, Border};
 use crate::bulk::{fill, fill_hosts};
-use crate::damage::{change_word, damage_bytes, damage_frame, damage_words};
+use crate::damage::{change_edition, change_word, damage_bytes, damage_frame, damage_words};
 use crate::faults::some_fault;
 use crate::{loose, valid, Draft, Rng, Scale};
 
@@ -23,7 +23,8 @@ pub fn case(seed: u64, index: u64) -> Case {
     let mut rng = Rng::new(seed, index);
     let rng = &mut rng;
     match rng.below(1000) {
-        0..=159 => whole("valid", rng, Scale::any),
+        0..=129 => whole("valid", rng, Scale::any),
+        130..=159 => chain(rng),
         160..=309 => faulty(rng, Scale::any),
         310..=489 => {
             let draft = loose(rng);
@@ -42,7 +43,12 @@ pub fn case(seed: u64, index: u64) -> Case {
 }
 
 fn border(rng: &mut Rng, all: &[Border]) -> Case {
-    let (label, make) = rng.pick(all);
+    let (label, draft) = at_border(rng, all);
+    finish(label.to_string(), rng, draft)
+}
+
+fn chain(rng: &mut Rng) -> Case {
+    let (label, make) = rng.pick(&chains());
     let draft = make(rng);
     finish(label.to_string(), rng, draft)
 }
@@ -105,10 +111,11 @@ fn damaged(rng: &mut Rng) -> Case {
     let draft = base(rng);
     let words = encode_sheet(&draft.sheet);
     let mut case = with_lengths("damage".to_string(), rng, &words, &draft.hosts);
-    case.sheet = match rng.below(10) {
+    case.sheet = match rng.below(11) {
         0..=4 => damage_words(rng, &words),
         5 => damage_frame(rng, &words),
         6 | 7 => change_word(rng, &words),
+        8 => change_edition(rng, &words),
         _ => damage_bytes(rng, case.sheet),
     };
     // 1 comes before 23 and 24.
@@ -135,7 +142,7 @@ fn host_damage(rng: &mut Rng) -> Case {
     }
     let mut case = with_lengths("host list".to_string(), rng, &sheet, &draft.hosts);
     let words = encode_hosts(&draft.hosts);
-    case.hosts = match rng.below(6) {
+    case.hosts = match rng.below(7) {
         0 | 1 => {
             let mut twice = rng.pick(&draft.hosts);
             twice.scheduler ^= rng.coin();
@@ -145,6 +152,7 @@ fn host_damage(rng: &mut Rng) -> Case {
         }
         2 | 3 => damage_words(rng, &words),
         4 => damage_frame(rng, &words),
+        5 => change_edition(rng, &words),
         _ => damage_bytes(rng, case.hosts),
     };
     // 23 comes before 24.

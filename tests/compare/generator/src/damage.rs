@@ -1,6 +1,6 @@
 //! Damage to words (with check words that fit) and to bytes (without).
 
-use sheets::{refit, write_blocks, Role, Words, BLOCK};
+use sheets::{refit, write_blocks, Edition, Role, Words, BLOCK};
 
 use crate::Rng;
 
@@ -34,8 +34,23 @@ pub fn damage_words(rng: &mut Rng, words: &Words) -> Vec<u8> {
             word & 0xffff_ff00 | rng.pick(&[35, 35, 255, any])
         }
         Role::ExportKind => rng.pick(&[3, 4, u32::MAX]),
+        Role::Edition => other_edition(rng, word),
         _ => rng.pick(&[2, 3, u32::MAX, word ^ 1]),
     };
+    write_blocks(&out)
+}
+
+/// An edition word other than this: that of the other edition, or one that has none.
+fn other_edition(rng: &mut Rng, word: u32) -> u32 {
+    let others = Edition::ALL.map(Edition::word).into_iter();
+    let others = others.chain([0, 3, u32::MAX]).filter(|&w| w != word);
+    rng.pick(&others.collect::<Vec<_>>())
+}
+
+/// Another edition word, the check words made to fit: a sheet of the other edition still holds.
+pub fn change_edition(rng: &mut Rng, words: &Words) -> Vec<u8> {
+    let mut out = words.words.clone();
+    out[0] = other_edition(rng, out[0]);
     write_blocks(&out)
 }
 

@@ -1,7 +1,7 @@
 //! A sheet and its host list as plain data, before any byte of it is written.
 
 use sheets::build::func;
-use sheets::{HostEntry, Sheet, TypeEntry, ValueType, DYN};
+use sheets::{Edition, HostEntry, Sheet, TypeEntry, ValueType, DYN};
 
 use crate::Rng;
 
@@ -68,6 +68,11 @@ impl Draft {
     pub fn value_type(&self, rng: &mut Rng) -> ValueType {
         value_type(rng, self.sheet.types.len())
     }
+}
+
+/// The second edition for one sheet in three.
+pub fn edition(rng: &mut Rng) -> Edition {
+    rng.pick(&[Edition::First, Edition::First, Edition::Second])
 }
 
 /// A value type over so many types.

@@ -14,6 +14,7 @@ pub struct Counts {
     pub funcs: usize,
     pub strings: usize,
     pub functions: usize,
+    pub most_on_chain: u32,
 }
 
 /// A type list without a fault.
@@ -81,7 +82,7 @@ fn grow_forest(rng: &mut Rng, types: &mut [TypeEntry], order: &[u32], counts: Co
     let n = types.len();
     let strings = counts.strings;
     let style = rng.below(4);
-    let mut depth = vec![0; n];
+    let mut length = vec![1; n];
     let mut fields_of: Vec<Vec<(u32, ValueType)>> = vec![Vec::new(); n];
     for (i, &t) in order.iter().enumerate() {
         let parent = match style {
@@ -93,10 +94,10 @@ fn grow_forest(rng: &mut Rng, types: &mut [TypeEntry], order: &[u32], counts: Co
             _ if rng.one_in(4) => None,
             _ => rng.choose(&order[..i]),
         };
-        let parent = parent.filter(|&p| depth[p as usize] < 250);
+        let parent = parent.filter(|&p| length[p as usize] < counts.most_on_chain);
         let mut fields = Vec::new();
         if let Some(p) = parent {
-            depth[t as usize] = depth[p as usize] + 1;
+            length[t as usize] = length[p as usize] + 1;
             fields = fields_of[p as usize].clone();
         }
         if fields.len() < 12 && rng.coin() {

@@ -1,8 +1,8 @@
-//! Renumbered pairs: two sheets that differ by one renumbering of types, and one host list.
+//! Renumbered pairs: two sheets of one edition that differ by one renumbering of types, and one host list.
 
 use sheets::renumber;
 
-use crate::borders::borders;
+use crate::borders::{at_border, borders, chains};
 use crate::cases::faulty_draft;
 use crate::{loose, valid, Draft, Rng, Scale};
 
@@ -23,7 +23,8 @@ pub fn pair(seed: u64, index: u64) -> Pair {
             let scale = Scale::any(rng);
             valid(rng, &scale)
         }
-        6 => rng.pick(&borders()).1(rng),
+        6 if rng.one_in(4) => rng.pick(&chains()).1(rng),
+        6 => at_border(rng, &borders()).1,
         7 => loose(rng),
         _ => faulty_draft(rng, Scale::any).1,
     };

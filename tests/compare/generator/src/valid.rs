@@ -4,6 +4,7 @@ use sheets::{
     CalleeKind, Export, ExportKind, Global, HookBinding, HostEntry, Import, ValueType, DYN,
 };
 
+use crate::draft::edition;
 use crate::forest::{types, Counts};
 use crate::functions::add_functions;
 use crate::lists::{constants, param_list};
@@ -14,6 +15,7 @@ use crate::{Draft, Rng};
 /// A module that the loader accepts.
 pub fn valid(rng: &mut Rng, scale: &Scale) -> Draft {
     let mut draft = Draft::default();
+    draft.sheet.edition = edition(rng);
     add_strings(rng, &mut draft, scale);
     let strings = draft.sheet.strings.len();
     let functions = rng.within(0, scale.functions);
@@ -27,6 +29,7 @@ pub fn valid(rng: &mut Rng, scale: &Scale) -> Draft {
         funcs,
         strings,
         functions,
+        most_on_chain: draft.sheet.edition.most_on_chain(),
     };
     draft.sheet.types = types(rng, counts);
     let count = rng.within(0, scale.constants);

@@ -47,6 +47,14 @@ pub fn write_blocks(words: &[u32]) -> Vec<u8> {
     bytes
 }
 
+/// The bytes with another edition word, the check words made to fit.
+pub fn with_edition(bytes: &[u8], word: u32) -> Vec<u8> {
+    let mut bytes = bytes.to_vec();
+    bytes[..4].copy_from_slice(&word.to_le_bytes());
+    refit(&mut bytes);
+    bytes
+}
+
 /// Makes the check words of all whole blocks fit.
 pub fn refit(bytes: &mut [u8]) {
     for (number, block) in bytes.chunks_exact_mut(BLOCK).enumerate() {

@@ -3,12 +3,14 @@
 use crate::blocks::{read_blocks, WORDS};
 use crate::plain::*;
 use crate::reader::Reader;
+use crate::Edition;
 
 /// The sheet and its length N in words.
 pub fn decode_sheet(bytes: &[u8]) -> Option<(Sheet, u32)> {
     let words = read_blocks(bytes)?;
     let mut r = Reader::frame(&words, WORDS)?;
     let sheet = Sheet {
+        edition: Edition::of_word(words[0])?,
         strings: r.list(Reader::string)?,
         types: r.list(type_entry)?,
         constants: r.list(constant)?,
@@ -25,6 +27,7 @@ pub fn decode_sheet(bytes: &[u8]) -> Option<(Sheet, u32)> {
 /// The entries of a host list; pairs that stand twice are not looked for here.
 pub fn decode_hosts(bytes: &[u8]) -> Option<Vec<HostEntry>> {
     let words = read_blocks(bytes)?;
+    Edition::of_word(words[0]).filter(|&e| e == Edition::First)?;
     let mut r = Reader::frame(&words, WORDS)?;
     let entries = r.list(|r| {
         Some(HostEntry {

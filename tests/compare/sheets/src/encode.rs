@@ -2,6 +2,7 @@
 
 use crate::blocks::write_blocks;
 use crate::plain::*;
+use crate::Edition;
 
 /// What a word is in its sheet or host list.
 #[derive(Clone, Copy, Debug, PartialEq, Eq)]
@@ -35,9 +36,9 @@ pub struct Words {
 }
 
 impl Words {
-    fn start() -> Words {
+    fn start(edition: Edition) -> Words {
         let mut out = Words::default();
-        out.put(Role::Edition, 1);
+        out.put(Role::Edition, edition.word());
         out.put(Role::Length, 0);
         out
     }
@@ -116,7 +117,7 @@ impl Words {
 
 /// The words of a sheet.
 pub fn encode_sheet(sheet: &Sheet) -> Words {
-    let mut w = Words::start();
+    let mut w = Words::start(sheet.edition);
     w.list(&sheet.strings, |w, s| w.string(s));
     w.list(&sheet.types, type_entry);
     w.list(&sheet.constants, constant);
@@ -147,7 +148,7 @@ pub fn encode_sheet(sheet: &Sheet) -> Words {
 
 /// The words of a host list.
 pub fn encode_hosts(hosts: &[HostEntry]) -> Words {
-    let mut w = Words::start();
+    let mut w = Words::start(Edition::First);
     w.list(hosts, |w, h| {
         w.string(&h.module);
         w.string(&h.name);

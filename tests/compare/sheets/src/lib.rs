@@ -3,6 +3,7 @@
 mod blocks;
 pub mod build;
 mod decode;
+mod edition;
 mod encode;
 pub mod op;
 mod plain;
@@ -10,8 +11,11 @@ mod reader;
 mod renumber;
 mod rust;
 
-pub use blocks::{check_word, read_blocks, refit, write_blocks, BLOCK, MOST_BLOCKS, WORDS};
+pub use blocks::{
+    check_word, read_blocks, refit, with_edition, write_blocks, BLOCK, MOST_BLOCKS, WORDS,
+};
 pub use decode::{decode_hosts, decode_sheet};
+pub use edition::Edition;
 pub use encode::{encode_hosts, encode_sheet, Role, Words};
 pub use plain::{
     CalleeKind, Constant, Export, ExportKind, Function, Global, Handler, HookBinding, HostEntry,

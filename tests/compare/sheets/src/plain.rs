@@ -1,5 +1,7 @@
 //! The plain data of a sheet: its lists as they stand, with the sheet's own numbers.
 
+use crate::Edition;
+
 /// A value type as the sheet numbers it; 16 + t is a reference to type t.
 #[derive(Clone, Copy, Debug, PartialEq, Eq, PartialOrd, Ord)]
 pub struct ValueType(pub u32);
@@ -139,6 +141,7 @@ pub struct Export {
 /// A sheet; strings are bytes so that broken ones can be written too.
 #[derive(Clone, Debug, Default, PartialEq, Eq)]
 pub struct Sheet {
+    pub edition: Edition,
     pub strings: Vec<Vec<u8>>,
     pub types: Vec<TypeEntry>,
     pub constants: Vec<Constant>,

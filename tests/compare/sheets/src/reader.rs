@@ -7,12 +7,11 @@ pub struct Reader<'w> {
 }
 
 impl<'w> Reader<'w> {
-    /// A reader of the words after edition and length, if these and the words after the end hold.
+    /// A reader of the words after edition and length, if the length and the words after the end hold.
     pub fn frame(words: &'w [u32], per_block: usize) -> Option<Reader<'w>> {
-        let (&edition, &length) = (words.first()?, words.get(1)?);
-        let length = usize::try_from(length).ok()?;
+        let length = usize::try_from(*words.get(1)?).ok()?;
         let in_last_block = length <= words.len() && length + per_block > words.len();
-        if edition != 1 || !in_last_block || words[length..].iter().any(|&w| w != 0) {
+        if !in_last_block || words[length..].iter().any(|&w| w != 0) {
             return None;
         }
         let words = &words[..length];

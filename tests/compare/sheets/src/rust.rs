@@ -5,6 +5,7 @@ use bytecode_lang as lang;
 use bytecode_lang::{ConstId, FuncId, GlobalId, ImportId, StrId, TypeId};
 
 use crate::plain::*;
+use crate::Edition;
 
 /// The host registry, or none when a pair stands twice.
 pub fn rust_host(entries: &[HostEntry]) -> Option<Host> {
@@ -17,6 +18,8 @@ pub fn rust_host(entries: &[HostEntry]) -> Option<Host> {
 
 /// The module of a decoded sheet.
 pub fn rust_module(sheet: &Sheet) -> lang::Module {
+    // It knows the limit of the first edition alone.
+    assert_eq!(sheet.edition, Edition::First, "the Rust is not asked");
     lang::Module {
         strings: sheet.strings.iter().map(|s| text(s)).collect(),
         types: sheet.types.iter().map(type_def).collect(),

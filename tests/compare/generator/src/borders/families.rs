@@ -1,14 +1,18 @@
 //! Borders of types, parents and constants.
 
 use sheets::build::{func, strings, structure};
-use sheets::{renumber, Constant, Sheet, TypeEntry, ValueType, DYN};
+use sheets::{renumber, Constant, Edition, Sheet, TypeEntry, ValueType, DYN};
 
 use super::Border;
 use crate::{Draft, Rng};
 
-pub const BORDERS: &[Border] = &[
-    ("chain of about 256", chain),
+/// Borders that choose the edition themselves.
+pub const CHAINS: &[Border] = &[
+    ("chain of about a limit", chain),
     ("chain without a root", chain_without_root),
+];
+
+pub const BORDERS: &[Border] = &[
     ("both orders of a cycle", cycle_of_two),
     ("constants of depth about 64", depth),
     ("types equal through references", equal_through_references),
@@ -43,8 +47,21 @@ fn reorder(rng: &mut Rng, draft: Draft) -> Draft {
     }
 }
 
+/// An edition, and a number near its limit or, at times, near the other's.
+fn near_limit(rng: &mut Rng) -> (Edition, u32) {
+    let [edition, other] = [(); 2].map(|()| rng.pick(&Edition::ALL));
+    let limited = if rng.coin() { edition } else { other };
+    let most = limited.most_on_chain();
+    (edition, rng.pick(&[most - 1, most, most + 1, most + 2]))
+}
+
+fn of_edition(edition: Edition, mut draft: Draft) -> Draft {
+    draft.sheet.edition = edition;
+    draft
+}
+
 fn chain(rng: &mut Rng) -> Draft {
-    let length = rng.within(254, 258) as u32;
+    let (edition, length) = near_limit(rng);
     let link = |k: u32| structure(k.checked_sub(1), &[]);
     let mut types: Vec<_> = (0..length).map(link).collect();
     // Children off the chain, at its middle, beside its end and below it.
@@ -52,16 +69,16 @@ fn chain(rng: &mut Rng) -> Draft {
     for _ in 0..rng.pick(&[0, 1, 2, 40]) {
         types.push(structure(Some(parent), &[]));
     }
-    reorder(rng, draft(types))
+    reorder(rng, of_edition(edition, draft(types)))
 }
 
 /// The topmost of a chain has a parent that is no struct, that is absent, or that is the lowest.
 fn chain_without_root(rng: &mut Rng) -> Draft {
-    let length = rng.pick(&[255, 256, 300]);
+    let (edition, length) = near_limit(rng);
     let top = rng.pick(&[0, 9999, length]);
     let mut types = vec![TypeEntry::Coroutine, structure(Some(top), &[])];
     types.extend((1..length).map(|k| structure(Some(k), &[])));
-    reorder(rng, draft(types))
+    reorder(rng, of_edition(edition, draft(types)))
 }
 
 /// A struct with a field and one without are each other's parents: 16 or 17, by their order.

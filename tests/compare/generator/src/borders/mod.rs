@@ -6,10 +6,19 @@ mod layout;
 mod several;
 mod shapes;
 
+use crate::draft::edition;
 use crate::{Draft, Rng};
 
 /// A border and how to make a module there.
 pub type Border = (&'static str, fn(&mut Rng) -> Draft);
+
+/// A module at one of these borders, in either edition, and the border's name.
+pub fn at_border(rng: &mut Rng, all: &[Border]) -> (&'static str, Draft) {
+    let (name, make) = rng.pick(all);
+    let mut draft = make(rng);
+    draft.sheet.edition = edition(rng);
+    (name, draft)
+}
 
 /// Borders that fit a few blocks.
 pub fn borders() -> Vec<Border> {
@@ -20,6 +29,11 @@ pub fn borders() -> Vec<Border> {
         layout::BORDERS,
     ]
     .concat()
+}
+
+/// Chains at the limits of both editions.
+pub fn chains() -> Vec<Border> {
+    families::CHAINS.to_vec()
 }
 
 /// One place with several faults.

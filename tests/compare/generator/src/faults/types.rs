@@ -1,6 +1,6 @@
 //! Faults of rules 2 to 4: types, parents, constants.
 
-use sheets::{Constant, TypeEntry, ValueType, DYN};
+use sheets::{Constant, Edition, TypeEntry, ValueType, DYN};
 
 use super::{fault, Fault};
 use crate::draft::value_type;
@@ -17,7 +17,13 @@ pub const FAULTS: &[Fault] = &[
     fault("fields equal but for a number", 16, 0, equal_but_for_number),
     fault("cycle of parents", 17, 0, cycle),
     fault("cycle through a family", 17, 0, family_cycle),
-    fault("chain of 257", 17, 0, long_chain),
+    fault("chain one too long", 17, 0, long_chain),
+    fault(
+        "chain one too long for one edition",
+        17,
+        0,
+        chain_for_one_edition,
+    ),
     fault("string of a constant", 3, 3, constant_string),
     fault("constant not below", 18, 0, constant_not_below),
     fault("constants too deep", 18, 0, constants_too_deep),
@@ -198,11 +204,22 @@ fn family_cycle(rng: &mut Rng, draft: &mut Draft) {
     }
 }
 
-fn long_chain(rng: &mut Rng, draft: &mut Draft) {
+fn add_chain(rng: &mut Rng, draft: &mut Draft, length: u32) {
     let mut parent = None;
-    for _ in 0..257 {
+    for _ in 0..length {
         parent = Some(bare(rng, draft, parent));
     }
+}
+
+fn long_chain(rng: &mut Rng, draft: &mut Draft) {
+    let length = draft.sheet.edition.most_on_chain() + 1;
+    add_chain(rng, draft, length);
+}
+
+/// No fault in the first edition.
+fn chain_for_one_edition(rng: &mut Rng, draft: &mut Draft) {
+    let length = Edition::Second.most_on_chain() + 1;
+    add_chain(rng, draft, length);
 }
 
 fn constant_string(rng: &mut Rng, draft: &mut Draft) {

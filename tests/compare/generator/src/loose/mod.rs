@@ -8,6 +8,7 @@ mod types;
 
 use sheets::{ValueType, DYN};
 
+use crate::draft::edition;
 use crate::{Draft, Rng};
 
 /// A part of the module that can be the only one with faults.
@@ -54,6 +55,7 @@ pub fn loose(rng: &mut Rng) -> Draft {
     };
     let mut dice = Dice { rng, past, focus };
     let mut draft = Draft::default();
+    draft.sheet.edition = edition(dice.rng);
     let texts: [&[u8]; 3] = [b"a", b"b", b"a"];
     draft.sheet.strings = texts.map(<[u8]>::to_vec).to_vec();
     let functions = dice.rng.within(1, 3);

@@ -15,6 +15,7 @@ impl Dice<'_> {
             funcs: self.rng.within(1, 3),
             strings: 3,
             functions,
+            most_on_chain: draft.sheet.edition.most_on_chain(),
         };
         draft.sheet.types = types(self.rng, counts);
         let n = draft.sheet.types.len();

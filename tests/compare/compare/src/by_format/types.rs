@@ -2,7 +2,7 @@
 
 use sheets::{Constant, Sheet, TypeEntry, ValueType};
 
-use crate::rules::{kind, range, unless, value_type, value_types, Fault};
+use super::rules::{kind, range, unless, value_type, value_types, Fault};
 
 /// The first equal definition, as stored; a struct is only itself.
 pub fn canonical(sheet: &Sheet, t: u32) -> u32 {
@@ -68,6 +68,7 @@ fn met(sheet: &Sheet, t: u32, most: u32) -> u32 {
 }
 
 pub fn parents(sheet: &Sheet) -> Result<(), Fault> {
+    let most = sheet.edition.most_on_chain();
     for (t, entry) in (0..).zip(&sheet.types) {
         let TypeEntry::Struct {
             parent: Some(parent),
@@ -82,7 +83,7 @@ pub fn parents(sheet: &Sheet) -> Result<(), Fault> {
             _ => false,
         };
         unless(prefix, kind(16))?;
-        unless(met(sheet, t, 257) <= 256, kind(17))?;
+        unless(met(sheet, t, most + 1) <= most, kind(17))?;
     }
     Ok(())
 }

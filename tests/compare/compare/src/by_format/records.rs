@@ -2,8 +2,8 @@
 
 use sheets::{Function, ShapeEntry, Sheet};
 
-use crate::rules::{kind, no_twice, param_list, range, signature, unless, value_types, Fault};
-use crate::types::canonical_value;
+use super::rules::{kind, no_twice, param_list, range, signature, unless, value_types, Fault};
+use super::types::canonical_value;
 
 pub fn record(sheet: &Sheet, f: &Function) -> Result<(), Fault> {
     let (params, _) = signature(sheet, f.sig)?;

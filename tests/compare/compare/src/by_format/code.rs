@@ -2,7 +2,7 @@
 
 use sheets::{Function, Sheet, TypeEntry};
 
-use crate::rules::{kind, range, signature, unless, Fault, DYN};
+use super::rules::{kind, range, signature, unless, Fault, DYN};
 
 /// What a field names, with its word of kind 3.
 #[derive(Clone, Copy, PartialEq, Eq)]

@@ -2,8 +2,8 @@
 
 use sheets::{CalleeKind, Function, HostEntry, Sheet, TypeEntry, ValueType};
 
-use crate::rules::{lookup, signature};
-use crate::types::{canonical, canonical_string, canonical_value};
+use super::rules::{lookup, signature};
+use super::types::{canonical, canonical_string, canonical_value};
 
 pub fn words(sheet: &Sheet, hosts: &[HostEntry]) -> Vec<u32> {
     let types = 0..sheet.types.len() as u32;
@@ -151,8 +151,14 @@ fn hook(sheet: &Sheet, hook: u32) -> u32 {
 
 /// Pre, post and the chain length of each type.
 fn spans(sheet: &Sheet) -> Vec<[u32; 3]> {
+    let mut below = vec![Vec::new(); sheet.types.len() + 1];
+    for (t, entry) in (0u32..).zip(&sheet.types) {
+        if let TypeEntry::Struct { parent, .. } = entry {
+            below[place_below(*parent)].push(t);
+        }
+    }
     let mut walk = Walk {
-        sheet,
+        below,
         entered: 0,
         spans: vec![[u32::MAX, 0, 0]; sheet.types.len()],
     };
@@ -160,23 +166,27 @@ fn spans(sheet: &Sheet) -> Vec<[u32; 3]> {
     walk.spans
 }
 
+/// Where the children of a struct are listed, or the roots.
+fn place_below(above: Option<u32>) -> usize {
+    above.map_or(0, |t| t as usize + 1)
+}
+
 /// The numbering walk.
-struct Walk<'s> {
-    sheet: &'s Sheet,
+struct Walk {
+    /// The roots, then of each type its children, by rising number.
+    below: Vec<Vec<u32>>,
     entered: u32,
     spans: Vec<[u32; 3]>,
 }
 
-impl Walk<'_> {
-    /// Enters the roots, or below a struct its children, by rising number; their chains have this length.
+impl Walk {
+    /// Enters the roots, or below a struct its children; their chains have this length.
     fn enter_below(&mut self, above: Option<u32>, length: u32) {
-        for (t, entry) in (0u32..).zip(&self.sheet.types) {
-            if matches!(entry, TypeEntry::Struct { parent, .. } if *parent == above) {
-                let pre = self.entered;
-                self.entered += 1;
-                self.enter_below(Some(t), length + 1);
-                self.spans[t as usize] = [pre, self.entered, length];
-            }
+        for t in std::mem::take(&mut self.below[place_below(above)]) {
+            let pre = self.entered;
+            self.entered += 1;
+            self.enter_below(Some(t), length + 1);
+            self.spans[t as usize] = [pre, self.entered, length];
         }
     }
 }
