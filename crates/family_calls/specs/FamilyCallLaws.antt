@@ -39,7 +39,7 @@ use Rattle.parents.specs.Forest.{entryAt}
 use Rattle.load.specs.KindLaws.{accepted}
 use Rattle.law_forest.specs.Entries.{isStructEntry, entry-out}
 use Rattle.report_lines.specs.declared.Totals.{Totals}
-use Rattle.report_lines.specs.Report.{programRoom, judged, counting, countedModule, structsTotal, sizesTotal, totals, totalLine}
+use Rattle.report_lines.specs.Report.{programRoom, judged, moduleOr, counting, countedModule, structsTotal, sizesTotal, totals, totalLine}
 use Rattle.report_lines.specs.ReportLaws.{refused-none}
 use Rattle.report_lines.specs.Reported.{totalNumbers, AddsSheets, none, next}
 use Rattle.family_calls.specs.FamilyCalls.{SizesAsked, SizesRight, ReportsRight, TotalsExact}
@@ -137,15 +137,15 @@ abbrev pub ModuleRule : Module → Type 0
 ModuleRule m = ChainRule (mostOf m) (m .types)
 
 pub counted-rule : (hosts sheet : List ℕ) → ModuleRule (countedModule hosts sheet)
-unfolding countedModule counting
+unfolding countedModule counting moduleOr
 counted-rule hosts sheet = go (judged hosts sheet) refl
   where
-    go : (r : Loaded) → judged hosts sheet ≡ r → ModuleRule (counting r (decode sheet))
+    go : (r : Loaded) → judged hosts sheet ≡ r → ModuleRule (counting r (moduleOr (decode sheet)))
     go (Refused e) q = record { short = λ t h. absurd (no-types t (unfold noModule in h)) }
     go (Accepted l) q =
         let k = (accepted sheet hosts programRoom programRoom l) .0 (unfold judged in q) in
         let m = k .source in
-        subst (λ o. ModuleRule (counting (Accepted l) o)) (sym (k .decodes))
+        subst (λ o. ModuleRule (moduleOr o)) (sym (k .decodes))
         (chain-rule (mostOf m) (most-from-one (m .edition)) m (parents-kept (mostOf m) (k .hostList) m (k .kept)))
 
 pub reports-right : ReportsRight

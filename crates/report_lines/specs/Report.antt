@@ -20,14 +20,17 @@ programRoom = 16320
 unfoldable pub judged : List ℕ → List ℕ → Loaded
 judged hosts sheet = load sheet hosts programRoom programRoom
 
+unfoldable pub moduleOr : Option Module → Module
+moduleOr none = noModule
+moduleOr (some m) = m
+
 -- the module of an accepted sheet; a refused one declares nothing
-unfoldable pub counting : Loaded → Option Module → Module
-counting (Accepted l) (some m) = m
-counting (Accepted l) none = noModule
-counting (Refused e) o = noModule
+unfoldable pub counting : Loaded → Module → Module
+counting (Accepted l) m = m
+counting (Refused e) m = noModule
 
 unfoldable pub countedModule : List ℕ → List ℕ → Module
-countedModule hosts sheet = counting (judged hosts sheet) (decode sheet)
+countedModule hosts sheet = counting (judged hosts sheet) (moduleOr (decode sheet))
 
 -- ── lines ──
 

@@ -31,7 +31,7 @@ use Rattle.families.specs.Families.{familySize, structCount, structNumbers}
 use Rattle.families.specs.Counted.{countedOf, structsIn}
 use Rattle.law_families.specs.FamilyLaws.{size-some, size-none}
 use Rattle.report_lines.specs.declared.SheetReport.{SheetReport}
-use Rattle.report_lines.specs.Report.{judged, counting, countedModule, familyLine, structsTotal, sizesTotal}
+use Rattle.report_lines.specs.Report.{judged, moduleOr, counting, countedModule, familyLine, structsTotal, sizesTotal}
 use Rattle.report_lines.specs.Reported.{Reports}
 use Rattle.report_lines.specs.ReportLaws.{refused-none}
 use Rattle.calls.specs.Calls.{Loads, Begins}
@@ -140,8 +140,8 @@ module _ (hosts sheet table work lines : List ℕ) (a : length table ≡ 16320) 
     links = (accepted sheet hosts 16320 16320 l) .0 (sym (ap₂ (load sheet hosts) a b) ∙ sym e ∙ q)
 
     module-is : countedModule hosts sheet ≡ links .source
-    unfolding countedModule counting
-    module-is = ap₂ counting (sym is-judged ∙ q) (links .decodes)
+    unfolding countedModule counting moduleOr
+    module-is = ap₂ (λ (x : Loaded) (o : Option Module). counting x (moduleOr o)) (sym is-judged ∙ q) (links .decodes)
 
     long : 64 + 8 * lengthWord (words sheet) ≤ 16320
     unfolding longEnough enough fits needed
