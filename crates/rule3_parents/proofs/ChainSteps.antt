@@ -155,3 +155,9 @@ module _ (types : List TypeDef) (p t : ℕ) {r : Bool} where
   pub extends-none : r ≡ false → r ≡ isStruct (typeAt types p) → false ≡ extends types p t
   unfolding extends
   extends-none e k = rw (← k, e) refl
+
+-- ── one over the limit ──
+
+pub met-over : (ps : List ℕ) (t most : ℕ) {left r : ℕ} → left ≡ most + 1 → r ≡ length (chainIn ps left t) →
+    r ≡ length (chainIn ps (most + 1) t)
+met-over ps t most e h = h ∙ ap (λ f. length (chainIn ps f t)) e

@@ -1,6 +1,6 @@
 // Rule 3 in code: parents, per type.
 ghost use mathlib.Core.Path.{_≡_};
-ghost use Prim.Native.Nat.{_<_};
+ghost use Prim.Native.Nat.{_+_, _<_};
 ghost use lib.ListN.{length, getD};
 ghost use Rattle.error.specs.Verdict.{verdictOf, judgedOf};
 ghost use Rattle.sheet.specs.Module.{typeAt, structOf, isStruct};
@@ -103,6 +103,20 @@ fn chain_length(parents: &[u32], t: TypeId, left: u32) -> u32
     met
 }
 
+// How many numbers are met from t up, at most one over the limit. Those of the editions are written out: the loop is then unrolled.
+fn numbers_met(parents: &[u32], t: TypeId, most: u32) -> u32
+    requires { ⌜ most < 4294967295 ⌝ }
+    ensures { λ r. ⌜ r ≡ length (chainIn (now (parents .entry)) (most + 1) (t .0)) ⌝ }
+{
+    if most == 256 {
+        return chain_length(parents, t, 257);
+    }
+    if most == 64 {
+        return chain_length(parents, t, 65);
+    }
+    chain_length(parents, t, most + 1)
+}
+
 // The parent is a struct with no more fields than the child.
 fn may_extend(sheet: &[u8], work: &[u32], o: Opened, child: TypeId, parent: TypeId) -> bool
     requires { ⌜ Ready (sheetWords (now sheet) o) (now work) o ⌝ }
@@ -144,7 +158,7 @@ fn scan_parents(sheet: &[u8], work: &[u32], parents: &[u32], o: Opened, most: u3
             }
             i += 1;
         }
-        if most < chain_length(parents, TypeId(t), most + 1) {
+        if most < numbers_met(parents, TypeId(t), most) {
             found = Verdict::Broken(LoadErrorKind::InheritanceTooDeep);
             break 'types;
         }

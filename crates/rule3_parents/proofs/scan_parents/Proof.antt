@@ -98,11 +98,8 @@ loop-again c =
     compare-next _ _ _ _ _ _ _ (test .before .loop .inv) (test .loop-test .taken)
     (above .field-word .ensures) (own .field-word2 .ensures) (c .if4 .left)
 
-add-chain-length : tie.Need-add-chain-length Inv-loop μ-loop Inv-types μ-types
-add-chain-length c = search needs
-
-chain-length-requires : tie.Need-chain-length-requires Inv-loop μ-loop Inv-types μ-types
-chain-length-requires c κs = search needs
+numbers-met-requires : tie.Need-numbers-met-requires Inv-loop μ-loop Inv-types μ-types
+numbers-met-requires c κs = search needs
 
 add-t-2 : tie.Need-add-t-2 Inv-loop μ-loop Inv-types μ-types
 add-t-2 c = search needs
@@ -119,7 +116,7 @@ types-again-2 c =
     let known = told .before .before .before in
     let types = known .before .before in
     let start = types .before .before .before .before in
-    scan-next _ _ _ _ _ _ _ (turn .loop .inv) (test .loop-test .left) _ (start .pre .1 .0) (met .chain-length .ensures) (c .if5 .left)
+    scan-next _ _ _ _ _ _ _ (turn .loop .inv) (test .loop-test .left) _ (start .pre .1 .0) (met .numbers-met .ensures) (c .if5 .left)
 
 returns : tie.Need-returns Inv-loop μ-loop Inv-types μ-types
 returns c = search (needs, scan-end)
@@ -159,8 +156,7 @@ scan-parents-spec =
     add-i
     loop-less
     loop-again
-    add-chain-length
-    chain-length-requires
+    numbers-met-requires
     add-t-2
     types-less-2
     types-again-2
