@@ -5,10 +5,10 @@ use mathlib.Core.Logic.{_↔_}
 use mathlib.Core.Bool.{Bool, true, false, cond, _&&_}
 use mathlib.Core.List.{List, [], _∷_, _++_, map}
 use native.Mathlib.Omega.{arith}
-use native.Mathlib.Decide.{decLt, decLe}
+use native.Mathlib.Decide.{decLt}
 use lib.Dec.{T, eqb, leb, leb→le}
 use lib.ListN.{length, take, length-map}
-use borrow.Author.Tests.{le-leb, leb-true}
+use borrow.Author.Tests.{leb-true, leb-false}
 use Rattle.lists.specs.Lists.{from, keep, concatMapFrom, isFront}
 use Rattle.lists.specs.ListLaws.{both, length-from, T-of}
 use Rattle.law_counting.specs.Counting.{tick, count}
@@ -29,13 +29,6 @@ use Rattle.law_forest.specs.Once.{ChainRule, once}
 use Rattle.law_forest.specs.Accepted.{chain-rule, children-kept, families}
 use Rattle.law_forest.specs.Limits.{isFit, ChildRight, KeptRight, oneChain, ParentsRight, RightUnderAll}
 
-over : (n most : ℕ) → leb n most ≡ false → most < n
-over n most e = go (decLe n most)
-  where
-    go : Dec (n ≤ most) → most < n
-    go (yes h) = let z = sym (le-leb n most h) ∙ e in let y : _≡_ {A = ℕ} 0 1 = cc in absurd (omega arith)
-    go (no h) = omega arith
-
 -- ── a type with a parent ──
 
 -- the three tests in their order
@@ -55,11 +48,11 @@ fit-last false b c e = let z : _≡_ {A = ℕ} 0 1 = cc in absurd (omega arith)
 -- n numbers were met
 long-faults : (n most : ℕ) (b : Bool) → leb n most ≡ b → (unless b InheritanceTooDeep ≡ InheritanceTooDeep ∷ []) ↔ (most < n)
 long-faults n most true e = (λ q. let z : _≡_ {A = ℕ} 0 1 = cc in absurd (omega arith), λ k. absurd (omega (arith, leb-true n most e)))
-long-faults n most false e = (λ q. over n most e, λ k. refl)
+long-faults n most false e = (λ q. leb-false n most e, λ k. refl)
 
 short-faults : (n most : ℕ) (b : Bool) → leb n most ≡ b → (unless b InheritanceTooDeep ≡ []) ↔ (n ≤ most)
 short-faults n most true e = (λ q. leb-true n most e, λ k. refl)
-short-faults n most false e = (λ q. let z : _≡_ {A = ℕ} 0 1 = cc in absurd (omega arith), λ k. absurd (omega (arith, over n most e)))
+short-faults n most false e = (λ q. let z : _≡_ {A = ℕ} 0 1 = cc in absurd (omega arith), λ k. absurd (omega (arith, leb-false n most e)))
 
 child-right : (most : ℕ) (types : List TypeDef) (t p : ℕ) → ChildRight most types t p
 unfolding isFit childFaults shortChain
