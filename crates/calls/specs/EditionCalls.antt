@@ -33,11 +33,11 @@ pub record EditionAnswered (sheet hosts : List ℕ) (table work : ℕ) (r : Load
   -- a host list of any other edition than 1 is refused with 23
   pub otherHosts : (m : Module) → decode sheet ≡ some m → (statedEdition hosts ≡ 1 → ⊥) → r ≡ Refused (inModule BadHostList)
   -- in edition 1 a chain has at most 256 types
-  pub first256 : (m : Module) (hs : List HostFn) → decode sheet ≡ some m → decodeHosts hosts ≡ some hs → longEnough sheet table work ≡ true →
-      statedEdition sheet ≡ 1 → r ≡ answerUnder 256 hs m
+  pub first256 : (m : Module) (hs : List HostFn) → decode sheet ≡ some m → decodeHosts hosts ≡ some hs →
+      longEnough sheet table work ≡ true → statedEdition sheet ≡ 1 → r ≡ answerUnder 256 hs m
   -- in edition 2 at most 64
-  pub second64 : (m : Module) (hs : List HostFn) → decode sheet ≡ some m → decodeHosts hosts ≡ some hs → longEnough sheet table work ≡ true →
-      statedEdition sheet ≡ 2 → r ≡ answerUnder 64 hs m
+  pub second64 : (m : Module) (hs : List HostFn) → decode sheet ≡ some m → decodeHosts hosts ≡ some hs →
+      longEnough sheet table work ≡ true → statedEdition sheet ≡ 2 → r ≡ answerUnder 64 hs m
 
 -- of every call
 unfoldable pub EditionsRight : Type 0

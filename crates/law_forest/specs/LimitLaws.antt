@@ -200,14 +200,14 @@ right-under-all most one = record {
 }
 
 -- so under those of both editions: 256 and 64
-pub editions-right : (e : ℕ) → ParentsRight (mostOnChain e)
+pub right-under-edition : (e : ℕ) → ParentsRight (mostOnChain e)
 unfolding RightUnderAll
-editions-right e = right-under-all (mostOnChain e) (most-from-one e)
+right-under-edition e = right-under-all (mostOnChain e) (most-from-one e)
 
 pub first-edition : ParentsRight 256
 unfolding mostOnChain
-first-edition = editions-right 1
+first-edition = right-under-edition 1
 
 pub second-edition : ParentsRight 64
 unfolding mostOnChain
-second-edition = editions-right 2
+second-edition = right-under-edition 2

@@ -9,7 +9,8 @@ use Rattle.sheet.specs.Editions.{mostOnChain}
 use Rattle.sheet.specs.Decode.{decode}
 use Rattle.families.specs.Families.{structCount, structNumbers}
 use Rattle.families.specs.Cases.{child, sample, computed}
-use Rattle.report_lines.specs.Report.{judged, moduleOr, counting, countedModule, familyLine, familyLines, structsTotal, sizesTotal, totals}
+use Rattle.report_lines.specs.Report.{judged, moduleOr, counting, countedModule}
+use Rattle.report_lines.specs.Report.{familyLine, familyLines, structsTotal, sizesTotal, totals}
 
 pub refused-none : (hosts sheet : List ℕ) (e : LoadError) → judged hosts sheet ≡ Refused e → countedModule hosts sheet ≡ noModule
 unfolding countedModule counting

@@ -38,6 +38,10 @@ pub record Numbered (most : ℕ) (types : List TypeDef) (at : ℕ) (l v u : List
   pub words : (x : ℕ) → 1 ≤ count x l → (j : ℕ) → j < 3 → getD u (at + 1 + 3 * x + j) 0 ≡ getD (spanOf most types x true) j 0
   pub same : (x : ℕ) → count x l ≡ 0 → (j : ℕ) → j < 3 → getD u (at + 1 + 3 * x + j) 0 ≡ getD v (at + 1 + 3 * x + j) 0
 
+-- the members of list k and all below them are numbered, `left` deep
+abbrev pub ListNumbered : ℕ → List TypeDef → ℕ → ℕ → ℕ → List ℕ → List ℕ → Type 0
+ListNumbered most types at left k v u = Numbered most types at (walksFrom left types k 0) v u
+
 -- the walk of list k has come to t, the next member, at `now`
 pub record Walking (most : ℕ) (types : List TypeDef) (o : Opened) (w : List ℕ) (at k left clock : ℕ) (v u : List ℕ) (t now : ℕ)
     : Type 0 where

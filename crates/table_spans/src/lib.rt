@@ -10,7 +10,7 @@ ghost use Rattle.parents.specs.Parents.{parentsFaults};
 ghost use Rattle.table.specs.Table.{spansOf};
 ghost use Rattle.writing.specs.Writing.{written};
 ghost use Rattle.table_spans.specs.Siblings.{Linking, Linked};
-ghost use Rattle.table_spans.specs.Walked.{walksFrom, Walks, Numbered, Blank};
+ghost use Rattle.table_spans.specs.Walked.{walksFrom, Walks, ListNumbered, Blank};
 use error::TypeId;
 use open_sheet::Opened;
 use region::copy_word;
@@ -93,7 +93,7 @@ fn visit(
     requires { ⌜ Walks most (moduleOf (now sheet) o .types) list clock left ⌝ }
     requires { ⌜ list ≤ o .counts .types ⌝ }
     requires { ⌜ at + 1 + 3 * o .counts .types ≤ length (now table) ⌝ }
-    ensures { λ r. ⌜ Numbered most (moduleOf (now (sheet .entry)) o .types) at (walksFrom left (moduleOf (now (sheet .entry)) o .types) list 0) (now (table .entry)) (now (table .exit)) ⌝ }
+    ensures { λ r. ⌜ ListNumbered most (moduleOf (now (sheet .entry)) o .types) at left list (now (table .entry)) (now (table .exit)) ⌝ }
     ensures { λ r. ⌜ r ≡ clock + length (walksFrom left (moduleOf (now (sheet .entry)) o .types) list 0) ⌝ }
 {
     let mut now = clock;
