@@ -201,9 +201,11 @@ def editions():
     second, first = re.search(r'^mostOnChain edition = cond \(eqb edition 2\) (\d+) (\d+)$', source, re.M).groups()
     compare('the editions of a sheet', EDITIONS, list(range(1, int(newest) + 1)))
     compare('the most types on a chain', MOST_ON_CHAIN, {1: int(first), 2: int(second)})
+    reads = re.search(r'^readsExportNames edition = eqb edition (\d+)$', source, re.M).group(1)
     for path in ('bindings/c/paqlluri.h', 'bindings/rust/src/lib.rs'):
-        said = re.findall(r'at most (\d+) types in edition 1 and (\d+) in edition 2', re.sub(r'\n(///| \*)', '', text(path)))
-        compare(f'{path}: the most types on a chain', said, [(first, second)])
+        said = re.findall(r'at most (\d+) types in edition 1 and (\d+) in edition 2\. The names of exports are read in edition (\d+) alone',
+                          re.sub(r'\n(///| \*)', '', text(path)))
+        compare(f'{path}: what the edition decides', said, [(first, second, reads)])
 
 def snake(name):
     return re.sub(r'(?<!^)(?=[A-Z])', '_', name).upper()
@@ -211,7 +213,7 @@ def snake(name):
 # numbers, names and words of the kinds: README.md's and the header's
 def kinds():
     found = {int(row[0]): row[1:3] for row in rows('The kinds')}
-    compare(f'{FORMAT}: kinds', list(found), list(range(27)))
+    compare(f'{FORMAT}: kinds', list(found), list(range(29)))
     table = re.findall(r'^\| (\d+) \| (.*?) \| \| (\d+) \| (.*?) \|$', text('README.md'), re.M)
     remark = r' \((word|number|number, second|`descends`).*\)$'
     said = {int(k): re.sub(remark, '', words) for row in table for k, words in (row[:2], row[2:])}

@@ -34,7 +34,8 @@ extern "C" {
 /*
  * A sheet and a host list have 1 to 4,096 blocks of 512 bytes, each with 127 words and a check word. The first word is
  * the edition: 1 or 2 of a sheet, 1 of a host list. A chain of parents has at most 256 types in edition 1 and 64 in
- * edition 2; nothing else depends on it.
+ * edition 2. The names of exports are read in edition 2 alone: each is a string of the sheet, and no two have the same
+ * bytes. Nothing else depends on the edition.
  */
 #define PAQLLURI_BLOCK_BYTES 512
 #define PAQLLURI_BLOCK_WORDS 127
@@ -55,7 +56,7 @@ extern "C" {
 enum paqlluri_place {
     PAQLLURI_KIND = 0,     /* one of enum paqlluri_kind */
     PAQLLURI_WORD = 1,     /* kind 3: one of enum paqlluri_what; kind 11: one of enum paqlluri_type_kind */
-    PAQLLURI_NUMBER = 2,   /* kind 0: the words written, L; kinds 2, 3, 8 and 19: see there */
+    PAQLLURI_NUMBER = 2,   /* kind 0: the words written, L; kinds 2, 3, 8, 19, 27 and 28: see there */
     PAQLLURI_SECOND = 3,   /* kinds 2 and 8: see there */
     PAQLLURI_FUNCTION = 4, /* the function + 1 that is at fault, 0 for none */
     PAQLLURI_POSITION = 5, /* the position + 1 of the instruction in its code, 0 for none */
@@ -78,33 +79,35 @@ enum paqlluri_nearest_place {
 
 /* Accepted, or why not. The first that holds, in the order of docs/FORMAT.md, "The order of answers". */
 enum paqlluri_kind {
-    PAQLLURI_ACCEPTED = 0,              /* number: the words of the linked table */
-    PAQLLURI_DECODE = 1,                /* the sheet's layout is broken */
-    PAQLLURI_UNRESOLVED_IMPORT = 2,     /* no host function for an import; number, second: its module and name, as string numbers */
-    PAQLLURI_OUT_OF_RANGE = 3,          /* a number is out of range; word: of what, number: which */
-    PAQLLURI_BAD_SIGNATURE = 4,         /* a signature is no func type with at most one result, or no scheduler's */
-    PAQLLURI_PARAM_MISMATCH = 5,        /* the registers do not begin with the parameters */
-    PAQLLURI_EMPTY_CODE = 6,            /* a function has no code */
-    PAQLLURI_FALLS_THROUGH = 7,         /* the last instruction falls through */
-    PAQLLURI_ARITY_MISMATCH = 8,        /* wrong number of arguments; number: expected, second: found */
-    PAQLLURI_CALLEE_HAS_CAPTURES = 9,   /* a function with captures is called directly, or is the start */
-    PAQLLURI_PROMOTE_NOT_DYNAMIC = 10,  /* Promote into what is not dyn */
-    PAQLLURI_WRONG_TYPE_KIND = 11,      /* a type of the wrong kind; word: the kind that is wanted */
-    PAQLLURI_BAD_MODIFIER = 12,         /* a wrong modifier */
-    PAQLLURI_INVALID_HANDLER = 13,      /* a handler's range, target or register is wrong */
-    PAQLLURI_CATCH_NOT_DYN = 14,        /* a catch register is not dyn */
-    PAQLLURI_TAIL_CALL_IN_TRY = 15,     /* a tail call under a handler */
-    PAQLLURI_BAD_PARENT = 16,           /* a parent is no struct, or its fields are not the first of the child's */
-    PAQLLURI_INHERITANCE_TOO_DEEP = 17, /* over 256 types on a chain, 64 in edition 2, or a cycle */
-    PAQLLURI_BAD_CONSTANT = 18,         /* a constant holds itself or a later one, or nests over 64 deep */
-    PAQLLURI_BAD_HOOK = 19,             /* a hook's callee has the wrong shape; number: the hook */
-    PAQLLURI_BAD_START = 20,            /* the start function takes or gives something */
-    PAQLLURI_BAD_PARAM_LIST = 21,       /* a parameter list is wrong */
-    PAQLLURI_BAD_CALL_SHAPE = 22,       /* a call shape is wrong */
-    PAQLLURI_BAD_HOST_LIST = 23,        /* the host list is broken or holds a pair twice */
-    PAQLLURI_SHORT_SLICE = 24,          /* table or work is shorter than 64 + 8N words */
-    PAQLLURI_NOT_LINKED = 25,           /* not a linked table (paqlluri_descends and the other queries only) */
-    PAQLLURI_MISSED_STRUCT = 26         /* never given */
+    PAQLLURI_ACCEPTED = 0,                  /* number: the words of the linked table */
+    PAQLLURI_DECODE = 1,                    /* the sheet's layout is broken */
+    PAQLLURI_UNRESOLVED_IMPORT = 2,         /* no host function for an import; number, second: its module and name, as string numbers */
+    PAQLLURI_OUT_OF_RANGE = 3,              /* a number is out of range; word: of what, number: which */
+    PAQLLURI_BAD_SIGNATURE = 4,             /* a signature is no func type with at most one result, or no scheduler's */
+    PAQLLURI_PARAM_MISMATCH = 5,            /* the registers do not begin with the parameters */
+    PAQLLURI_EMPTY_CODE = 6,                /* a function has no code */
+    PAQLLURI_FALLS_THROUGH = 7,             /* the last instruction falls through */
+    PAQLLURI_ARITY_MISMATCH = 8,            /* wrong number of arguments; number: expected, second: found */
+    PAQLLURI_CALLEE_HAS_CAPTURES = 9,       /* a function with captures is called directly, or is the start */
+    PAQLLURI_PROMOTE_NOT_DYNAMIC = 10,      /* Promote into what is not dyn */
+    PAQLLURI_WRONG_TYPE_KIND = 11,          /* a type of the wrong kind; word: the kind that is wanted */
+    PAQLLURI_BAD_MODIFIER = 12,             /* a wrong modifier */
+    PAQLLURI_INVALID_HANDLER = 13,          /* a handler's range, target or register is wrong */
+    PAQLLURI_CATCH_NOT_DYN = 14,            /* a catch register is not dyn */
+    PAQLLURI_TAIL_CALL_IN_TRY = 15,         /* a tail call under a handler */
+    PAQLLURI_BAD_PARENT = 16,               /* a parent is no struct, or its fields are not the first of the child's */
+    PAQLLURI_INHERITANCE_TOO_DEEP = 17,     /* over 256 types on a chain, 64 in edition 2, or a cycle */
+    PAQLLURI_BAD_CONSTANT = 18,             /* a constant holds itself or a later one, or nests over 64 deep */
+    PAQLLURI_BAD_HOOK = 19,                 /* a hook's callee has the wrong shape; number: the hook */
+    PAQLLURI_BAD_START = 20,                /* the start function takes or gives something */
+    PAQLLURI_BAD_PARAM_LIST = 21,           /* a parameter list is wrong */
+    PAQLLURI_BAD_CALL_SHAPE = 22,           /* a call shape is wrong */
+    PAQLLURI_BAD_HOST_LIST = 23,            /* the host list is broken or holds a pair twice */
+    PAQLLURI_SHORT_SLICE = 24,              /* table or work is shorter than 64 + 8N words */
+    PAQLLURI_NOT_LINKED = 25,               /* not a linked table (paqlluri_descends and the other queries only) */
+    PAQLLURI_MISSED_STRUCT = 26,            /* never given */
+    PAQLLURI_EXPORT_NAME_OUT_OF_RANGE = 27, /* an export's name is no string of the sheet; number: its string number; edition 2 alone */
+    PAQLLURI_DUPLICATE_EXPORT = 28          /* an export has the name of an earlier one; number: its place, from 0; edition 2 alone */
 };
 
 /* Whether two types have a nearest family. Kind 1 here is not PAQLLURI_DECODE; 25 is PAQLLURI_NOT_LINKED. */

@@ -1,6 +1,6 @@
 /*
  * What the header says of pointers, lengths and lent words, tried on the empty sheet, of families on samples/lifts.sheet,
- * and of editions on chains of types. Prints nothing where it holds.
+ * and of editions on chains of types and on names of exports. Prints nothing where it holds.
  *
  *     test LIFTS HOSTS
  */
@@ -367,6 +367,81 @@ static void editions(const uint8_t *sheet, const uint8_t *hosts) {
     expect("an empty sheet of edition 2", answer[PAQLLURI_KIND] == PAQLLURI_ACCEPTED && answer[PAQLLURI_NUMBER] == 49 && table[0] == 2);
 }
 
+/* The words between N and the exports. */
+static const uint32_t before_exports[] = {
+    4, 1, 'a', 1, 'a', 1, 'b', 0,          /* strings: "a" twice, "b" and "" */
+    1, 0, 0, 0,                            /* types: a func type */
+    0, 0,                                  /* no constants, no imports */
+    1, 4, 0,                               /* globals: an i64 */
+    1, 0, 0, 0, 0, 0, 0, 0, 0, 0, 1, 1, 0, /* functions: one that returns */
+    0, 0                                   /* no hooks, no start function */
+};
+
+#define EXPORTS_AT (2 + sizeof before_exports / sizeof *before_exports)
+#define EXPORTS_WORDS PAQLLURI_WORDS(PAQLLURI_BLOCK_BYTES)
+
+/* Exports of kind, name and index, and what edition 2 gives them. */
+struct exports {
+    const char *what;
+    uint32_t count, exports[3][3], kind, number;
+};
+
+/* A sheet of one block with these exports. */
+static void exporting(uint8_t *bytes, uint32_t edition, const struct exports *given) {
+    size_t i;
+    memset(bytes, 0, PAQLLURI_BLOCK_BYTES);
+    put(at(bytes, 0), edition);
+    put(at(bytes, 1), (uint32_t)EXPORTS_AT + 1 + 3 * given->count);
+    for (i = 2; i < EXPORTS_AT; i++)
+        put(at(bytes, i), before_exports[i - 2]);
+    put(at(bytes, EXPORTS_AT), given->count);
+    for (i = 0; i < 3 * given->count; i++)
+        put(at(bytes, EXPORTS_AT + 1 + i), given->exports[i / 3][i % 3]);
+    put(bytes + PAQLLURI_BLOCK_BYTES - 4, check_word(bytes, 0));
+}
+
+/* Whether load gives them this kind and number; the words of kind 3 are types here. */
+static int exported(const uint8_t *hosts, uint32_t edition, const struct exports *given, uint32_t kind, uint32_t number) {
+    static uint8_t bytes[PAQLLURI_BLOCK_BYTES];
+    static uint32_t linked[EXPORTS_WORDS], room[EXPORTS_WORDS];
+    const uint32_t word = kind == PAQLLURI_OUT_OF_RANGE ? PAQLLURI_TYPE : 0;
+    size_t i;
+    exporting(bytes, edition, given);
+    for (i = 0; i < EXPORTS_WORDS; i++)
+        linked[i] = room[i] = BEFORE;
+    paqlluri_load(bytes, sizeof bytes, hosts, PAQLLURI_BLOCK_BYTES, linked, EXPORTS_WORDS, room, EXPORTS_WORDS, answer);
+    return answer[PAQLLURI_KIND] == kind && answer[PAQLLURI_WORD] == word && answer[PAQLLURI_NUMBER] == number &&
+           all(answer, 3, PAQLLURI_NUMBERS, 0) && linked[0] == (kind == PAQLLURI_ACCEPTED ? 2 : BEFORE) && all(room, 0, EXPORTS_WORDS, 0);
+}
+
+#define TABLE_WORDS 65
+#define NO_TYPE 7
+
+/* Names are read in edition 2 alone, each after its export's index; NO_TYPE is the one index that is none. */
+static void exports(const uint8_t *hosts) {
+    static const struct exports rows[] = {
+        {"no exports", 0, {{0, 0, 0}}, PAQLLURI_ACCEPTED, TABLE_WORDS},
+        {"one of each kind, and an empty name", 3, {{0, 0, 0}, {1, 2, 0}, {2, 3, 0}}, PAQLLURI_ACCEPTED, TABLE_WORDS},
+        {"the first number that is no string", 2, {{2, 3, 0}, {2, 4, 0}}, PAQLLURI_EXPORT_NAME_OUT_OF_RANGE, 4},
+        {"the most as a name", 1, {{1, UINT32_MAX, 0}}, PAQLLURI_EXPORT_NAME_OUT_OF_RANGE, UINT32_MAX},
+        {"a name before the next index", 2, {{2, 9, 0}, {2, 0, NO_TYPE}}, PAQLLURI_EXPORT_NAME_OUT_OF_RANGE, 9},
+        {"equal bytes of two strings and kinds", 2, {{0, 0, 0}, {2, 1, 0}}, PAQLLURI_DUPLICATE_EXPORT, 1},
+        {"the third like the second", 3, {{0, 2, 0}, {1, 1, 0}, {2, 0, 0}}, PAQLLURI_DUPLICATE_EXPORT, 2},
+        {"three of one name", 3, {{2, 0, 0}, {2, 0, 0}, {2, 0, 0}}, PAQLLURI_DUPLICATE_EXPORT, 1},
+        {"an empty name twice", 2, {{2, 3, 0}, {1, 3, 0}}, PAQLLURI_DUPLICATE_EXPORT, 1},
+        {"a repeat before the next name", 3, {{2, 0, 0}, {2, 0, 0}, {2, 9, 0}}, PAQLLURI_DUPLICATE_EXPORT, 1},
+        {"an index before its name", 1, {{2, 9, NO_TYPE}}, PAQLLURI_OUT_OF_RANGE, NO_TYPE},
+        {"an index before a repeat", 2, {{2, 0, 0}, {2, 0, NO_TYPE}}, PAQLLURI_OUT_OF_RANGE, NO_TYPE},
+    };
+    size_t i;
+    for (i = 0; i < sizeof rows / sizeof *rows; i++) {
+        const struct exports *row = rows + i;
+        const int absent = row->exports[0][2] == NO_TYPE || row->exports[1][2] == NO_TYPE;
+        expect(row->what, exported(hosts, 2, row, row->kind, row->number));
+        expect(row->what, exported(hosts, 1, row, absent ? PAQLLURI_OUT_OF_RANGE : PAQLLURI_ACCEPTED, absent ? NO_TYPE : TABLE_WORDS));
+    }
+}
+
 int main(int argc, char **argv) {
     static uint8_t sheet_room[PAQLLURI_BLOCK_BYTES + 1], hosts_room[PAQLLURI_BLOCK_BYTES + 1];
     const uint8_t *sheet = block(sheet_room, 1, 11, 56), *hosts = block(hosts_room, 1, 3, 16);
@@ -378,6 +453,7 @@ int main(int argc, char **argv) {
                           PAQLLURI_WORDS(512 * 4096) == 4161600);
     loads(sheet, hosts);
     editions(sheet, hosts);
+    exports(hosts);
     families(sheet, argv[1], argv[2]);
     return wrong;
 }

@@ -9,6 +9,7 @@ SIGNATURE, PARAMS, EMPTY, FALLS, ARITY, CAPTURES, PROMOTE = [4], [5], [6], [7], 
 STRUCT_KIND, ARRAY_KIND, MAP_KIND, CELL_KIND = ([11, word] for word in range(1, 5))
 MODIFIER, HANDLER, CATCH, TAIL_CALL, PARENT, DEEP, BAD_CONSTANT = [12], [13], [14], [15], [16], [17], [18]
 HOOK, START, PARAM_LIST, CALL_SHAPE = [19, 0], [20], [21], [22]
+EXPORT_NAME, EXPORTED = [27, 0], [28, 0]
 
 # the refusal in that function, at that position if there is one
 def at(expected, function, position=-1):

@@ -1,5 +1,6 @@
 """Cases of rule 8: hooks, start, exports; and of the rules' order. By docs/FORMAT.md, apart from the definitions."""
-from answers import CAPTURES, CONSTANT, DEEP, EMPTY, FALLS, FUNCTION, GLOBAL, HOLDS, HOOK, IMPORT, PARAM_LIST, REGISTER, START, TYPE, at, collection
+from answers import (CAPTURES, CONSTANT, DEEP, EMPTY, EXPORTED, EXPORT_NAME, FALLS, FUNCTION, GLOBAL, HOLDS, HOOK, IMPORT, PARAM_LIST, REGISTER,
+                     START, TYPE, at, collection)
 from sheets import COROUTINE, DYN, I64, MOST, STR, cell, fn, func, import_, inst, param_list, ref, struct
 
 CASES, case = collection()
@@ -85,11 +86,69 @@ for name, kind, word, count in (('function', FUNC_ITEM, FUNCTION, 2), ('global',
 case('exports-one-by-one', TYPE + [9], exports=[(FUNC_ITEM, 0, 0), (TYPE_ITEM, 0, 9), (FUNC_ITEM, 0, 8)], **ITEMS)
 case('exports-third-broken', GLOBAL + [9], exports=[(FUNC_ITEM, 0, 0), (TYPE_ITEM, 0, 3), (GLOBAL_ITEM, 0, 9)], **ITEMS)
 
+# ── names of exports: what the second edition says, and the same sheet in the first, which reads none ──
+def named(name, expected, exports, strings=('a', 'a', 'b', '', 'c'), first=HOLDS, items=ITEMS, **p):
+    p.update(items, strings=strings, exports=exports)
+    case(f'export-{name}-of-edition-2', expected, edition=2, **p)
+    case(f'export-{name}', first, **p)
+
+def under(*names):
+    return [(TYPE_ITEM, name, 0) for name in names]
+
+named('name-absent', EXPORT_NAME + [9], under(9), strings=['a'], items=dict(types=[COROUTINE]))
+named('name-of-the-last-string', HOLDS, under(4))
+named('name-past-the-last-string', EXPORT_NAME + [5], under(5))
+named('name-most', EXPORT_NAME + [MOST], under(MOST))
+named('name-without-strings', EXPORT_NAME + [0], under(0), strings=[])
+named('name-empty', HOLDS, under(3))
+named('names-none', HOLDS, [], strings=[])
+KINDS = list(enumerate(('function', 'global', 'type')))
+for kind, name in KINDS:
+    named(f'name-absent-of-a-{name}', EXPORT_NAME + [7], [(kind, 2, 0), (kind, 7, 1)])
+    for other, beside in KINDS:
+        named(f'name-of-a-{name}-and-a-{beside}', EXPORTED + [1], [(kind, 0, 0), (other, 0, 1)])
+named('names-of-each-kind', HOLDS, [(FUNC_ITEM, 4, 0), (GLOBAL_ITEM, 0, 0), (TYPE_ITEM, 3, 0), (TYPE_ITEM, 2, 3)])
+named('two-names-of-one-item', HOLDS, under(0, 2))
+named('twice-under-one-name', EXPORTED + [1], under(0, 0))
+named('name-of-equal-bytes', EXPORTED + [1], under(0, 1))
+named('name-of-equal-bytes-swapped', EXPORTED + [1], under(1, 0))
+named('name-empty-twice', EXPORTED + [1], under(0, 1), strings=['', ''])
+named('name-three-times', EXPORTED + [1], under(0, 0, 0))
+named('name-three-times-by-bytes', EXPORTED + [2], under(2, 0, 1, 0))
+named('name-repeated-last', EXPORTED + [4], under(0, 2, 3, 4, 1))
+named('names-repeated-inside', EXPORTED + [2], under(0, 2, 2, 0))
+named('names-repeated-in-turn', EXPORTED + [2], under(0, 2, 0, 2))
+# bytes that begin alike, that only padding makes equal, or that only look alike
+for name, *texts in (('prefix', 'a', 'ab'), ('prefix-of-a-word', 'abcd', 'abcde'), ('zero-byte', 'a', 'a\0'), ('zero-byte-alone', '', '\0'),
+                     ('accent', 'é', 'e\u0301'), ('last-byte', 'x' * 600 + 'y', 'x' * 600 + 'z')):
+    named(f'names-apart-by-{name}', HOLDS, under(0, 1), strings=texts)
+    named(f'names-apart-by-{name}-swapped', HOLDS, under(1, 0), strings=texts)
+named('names-of-many-equal-bytes', EXPORTED + [1], under(0, 1), strings=['x' * 601] * 2)
+MANY = [f'{k:x}' for k in range(250)]
+named('names-many', HOLDS, under(*range(250)), strings=MANY)
+named('names-many-the-first-repeated', EXPORTED + [250], under(*range(250), 0), strings=MANY)
+named('names-many-the-first-by-bytes', EXPORTED + [250], under(*range(251)), strings=MANY + ['0'])
+named('names-many-the-last-past-the-strings', EXPORT_NAME + [250], under(*range(251)), strings=MANY)
+# index, range, repeat, then the next export
+WRONG = (TYPE_ITEM, 0, 7)
+named('index-before-range', TYPE + [7], [(TYPE_ITEM, 9, 7)], first=TYPE + [7])
+named('index-before-repeat', TYPE + [7], [*under(0), WRONG], first=TYPE + [7])
+named('range-before-a-later-index', EXPORT_NAME + [9], [*under(9), WRONG], first=TYPE + [7])
+named('index-before-a-later-range', TYPE + [7], [WRONG, *under(9)], first=TYPE + [7])
+named('repeat-before-a-later-index', EXPORTED + [1], [*under(0, 0), (TYPE_ITEM, 2, 7)], first=TYPE + [7])
+named('index-before-a-later-repeat', TYPE + [7], [*under(0), (TYPE_ITEM, 2, 7), *under(0)], first=TYPE + [7])
+named('repeat-before-a-later-range', EXPORTED + [1], under(0, 0, 9))
+named('range-before-a-later-repeat', EXPORT_NAME + [9], under(0, 9, 0))
+named('range-before-a-later-range', EXPORT_NAME + [9], under(0, 9, 8))
+named('index-of-another-kind-before-range', FUNCTION + [2], [(FUNC_ITEM, 9, 2), *under(9)], first=FUNCTION + [2])
+
 # ── one rule after the other ──
 ALL = dict(start=9, exports=[(FUNC_ITEM, 0, 8)])
 case('hooks-before-start', IMPORT + [7], hooks=[(0, 1, 7)], **ALL)
 case('hooks-before-exports', HOOK + [0], types=[fn()], funcs=[func()], hooks=[(0, 0, 0)], exports=[(FUNC_ITEM, 0, 8)])
 case('start-before-exports', FUNCTION + [8], **ALL)
+named('name-behind-hooks', IMPORT + [7], under(9), first=IMPORT + [7], hooks=[(0, 1, 7)])
+named('name-behind-start', FUNCTION + [8], under(9), first=FUNCTION + [8], start=9)
 case('start-shape-before-exports', START, types=[fn([DYN])], funcs=[func(0, [DYN])], start=1, exports=[(TYPE_ITEM, 0, 8)])
 case('code-before-hooks', at(REGISTER + [0], 1, 0), types=[fn()], funcs=[func(), func(code=[inst(2)])], hooks=[(0, 1, 7)], **ALL)
 case('empty-code-before-start', at(EMPTY, 0), types=[fn()], funcs=[func(code=[])], **ALL)

@@ -5,7 +5,7 @@ Sizes are counted from declared parents, type by type and chain by chain, apart 
 accepted sheets are by hand, as the terms show; those of samples are the rows of samples/README.md. The program takes at most 16 blocks.
 """
 import os, re, shutil
-from answers import BROKEN, DEEP, HOOK, PARENT, TYPE, line
+from answers import BROKEN, DEEP, EXPORTED, EXPORT_NAME, HOOK, PARENT, TYPE, line
 from samples import SAMPLES
 from sheets import COROUTINE, CRATES, DYN, I64, MOST, STR, array, cell, fn, func, iter_, map_, parts, ref, sheet, struct
 from trial import ARRAY, CELL, COROUTINE_TYPE, FN, ITER, MAP, accepted, struct_type
@@ -107,6 +107,16 @@ case('parent-no-struct', PARENT, [struct(), COROUTINE, struct(parent=1)])
 case('parent-most', PARENT, [struct(), struct(parent=MOST - 1)])
 case('circle-of-two', DEEP, [struct(), struct(parent=2), struct(parent=1)])
 case('export-absent', TYPE + [3], [struct(), struct(parent=0), struct(parent=0)], exports=[(2, 0, 3)])
+# a family exported under these names of three strings, two of them equal
+def exported(name, expected, *names):
+    family = [struct(), struct(parent=0), struct(parent=0)]
+    given = dict(strings=('a', 'a', 'b'), exports=[(2, number, t) for t, number in enumerate(names)])
+    case(f'exports-{name}-of-edition-2', expected, family, edition=2, **given)
+    case(f'exports-{name}', structs(3), family, **given)
+
+exported('named', structs(3), 1, 2)
+exported('named-past-the-strings', EXPORT_NAME + [3], 2, 3, 1)
+exported('named-alike', EXPORTED + [2], 0, 2, 1)
 case('hook-of-another-shape', HOOK + [5], [struct(), fn()], hooks=[(5, 0, 0)], funcs=[func(1)])
 file('no-bytes', b'')
 file('text', b'any bytes may come\n')

@@ -4,7 +4,7 @@
 By docs/FORMAT.md, apart from the definitions; the lengths of tables are counted by hand, as the terms show. The program takes at most
 16 blocks.
 """
-from answers import BROKEN, DEEP, REGISTER, UNRESOLVED, at, collection, line
+from answers import BROKEN, DEEP, EXPORTED, EXPORT_NAME, REGISTER, UNRESOLVED, at, collection, line
 from sheets import (COROUTINE, DYN, I64, STR, array, cell, entries, fn, func, host_list, import_, inst, items, iter_, map_, param_list, ref, struct, text, write)
 
 CASES, case = collection()
@@ -104,7 +104,14 @@ case('constants', accepted(2), strings=['t'], consts=[[0, 7, 8], text(0), items(
 # hook 0 ends bound to function 1, hook 1 to the import
 case('hooks-bound-twice', accepted(FN, 2 * FUNC, 4, IMPORT), types=[fn([DYN], [DYN])], imports=[import_()], funcs=[func(regs=[DYN])] * 2,
      hooks=[(0, 1, 0), (1, 0, 0), (0, 0, 1), (1, 1, 0)], **MF)
-case('start-and-exports', accepted(FN, FUNC, 1), types=[fn()], globals_=[(I64, 0)], funcs=[func()], start=1, exports=[(0, 9, 0), (1, 9, 0), (2, 9, 0)])
+ITEMS = dict(types=[fn()], globals_=[(I64, 0)], funcs=[func()], start=1)
+case('start-and-exports', accepted(FN, FUNC, 1), exports=[(0, 9, 0), (1, 9, 0), (2, 9, 0)], **ITEMS)
+# the second edition reads the names of exports: strings 0 and 1 are equal
+for name, expected, names in (('named', accepted(FN, FUNC, 1), (0, 2, 3)), ('named-past-the-strings', EXPORT_NAME + [4], (0, 2, 4)),
+                              ('named-twice', EXPORTED + [1], (2, 2, 4)), ('named-alike', EXPORTED + [2], (0, 2, 1))):
+    EXPORTS = dict(strings=['a', 'a', 'b', ''], exports=[(kind, number, 0) for kind, number in enumerate(names)], **ITEMS)
+    case(f'exports-{name}', accepted(FN, FUNC, 1), **EXPORTS)
+    case(f'exports-{name}-of-edition-2', expected, edition=2, **EXPORTS)
 
 # N = 11 + 2,021 = 2,032 words fill 16 blocks; a block more counts as no bytes
 case('sixteen-blocks', accepted(2021 * COROUTINE_TYPE), types=[COROUTINE] * 2021)

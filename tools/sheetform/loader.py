@@ -2,7 +2,10 @@
 import signal, subprocess, tempfile
 from . import native
 from .blocks import MOST_ON_CHAIN
+from .codes import EXPORTS
+from .families import plural, shortened
 from .files import Failed, say
+from .module import SHEET, read
 
 KINDS = {
     1: "the sheet's layout is broken",
@@ -31,6 +34,8 @@ KINDS = {
     24: 'table or work is shorter than 64 + 8N words',
     25: 'not a linked table',
     26: 'never given',
+    27: "an export's name is no string of the sheet",
+    28: 'an export has the name of an earlier one',
 }
 OUT_OF = ['type', 'function', 'string', 'constant', 'register', 'import', 'global', 'branch target', 'table target', 'table', 'name', 'type ref',
           'capture', 'call shape']
@@ -106,24 +111,32 @@ def whole(numbers, rest, asked=None, *_):
         return len(rest) == 2 and (rest[0] == 0 or rest == NO_FAMILY)
     return len(rest) == (numbers[2] if numbers[0] == 0 and asked == '--table' else 0)
 
-# the strings of an intact sheet: its first part, after edition and N
-def strings(sheet):
-    data = b''.join(sheet[k:k + 508] for k in range(0, len(sheet), 512))
-    word = lambda at: int.from_bytes(data[at:at + 4], 'little')
-    texts, at = [], 12
-    for _ in range(word(8)):
-        texts.append(data[at + 4:at + 4 + word(at)].decode())
-        at += 4 + -(-word(at) // 4) * 4
-    return texts
-
 # the words of a kind; of 17 those of the sheet's own edition, its first word
 def words_of(sheet, kind):
     return f'over {MOST_ON_CHAIN[int.from_bytes(sheet[:4], "little")]} types on a chain, or a cycle' if kind == 17 else KINDS[kind]
 
+# an export by its place in the list, and what it exports
+def exported(module, place):
+    export = module.exports[place]
+    return f'export {place}, {EXPORTS[export.kind]} {export.index},'
+
+# the loader stops at the first export whose name no string has, so that it is the first with this one
+def unnamed(module, name):
+    place = [export.name for export in module.exports].index(name)
+    return f'{exported(module, place)} has string {name} as its name, and the sheet has {plural(len(module.strings), "string")}'
+
+# the export at that place, and the first of those before it whose name has the same text
+def namesakes(module, later):
+    names = [export.name for export in module.exports[:later + 1]]
+    texts = [module.strings[name] for name in names]
+    first = texts.index(texts[later], 0, later)
+    numbers = f'string {names[first]}' if names[first] == names[later] else f'strings {names[first]} and {names[later]}'
+    return f'{exported(module, first)} and {exported(module, later)} are both named {shortened(texts[later])!r} ({numbers})'
+
 # what word, number and second say of that kind
 def details(sheet, kind, word, number, second):
     if kind == 2:
-        texts = strings(sheet)
+        texts = read(sheet, SHEET).strings
         return f': module {texts[number]!r} (string {number}), name {texts[second]!r} (string {second})'
     if kind == 3:
         return f': {OUT_OF[word - 1]} {number}'
@@ -131,6 +144,8 @@ def details(sheet, kind, word, number, second):
         return f': {number} expected, {second} found'
     if kind == 11:
         return f': {WANTED[word - 1]} is wanted'
+    if kind in (27, 28):
+        return f': {(unnamed if kind == 27 else namesakes)(read(sheet, SHEET), number)}'
     return f': hook {number}' if kind == 19 else ''
 
 def meaning(sheet, numbers):

@@ -157,6 +157,10 @@ pub enum LoadErrorKind {
     BadHostList,
     /// 24: table or work is shorter than 64 + 8N words.
     ShortSlice,
+    /// 27: an export's name is no string of the sheet; the name. Edition 2 alone.
+    ExportNameOutOfRange(StrId),
+    /// 28: an export has the name of an earlier one; its place, from 0. Edition 2 alone.
+    DuplicateExport(u32),
 }
 
 impl LoadErrorKind {
@@ -188,17 +192,18 @@ impl LoadErrorKind {
             Self::BadCallShape => only(22),
             Self::BadHostList => only(23),
             Self::ShortSlice => only(24),
+            Self::ExportNameOutOfRange(name) => [27, 0, name.0, 0],
+            Self::DuplicateExport(place) => [28, 0, place, 0],
         }
     }
 
     /// The kind with these numbers; those that it does not use are not looked at.
     fn from_numbers([kind, word, number, second]: [u32; 4]) -> Option<Self> {
+        let (module, name) = (StrId(number), StrId(second));
+        let (expected, found) = (number, second);
         Some(match kind {
             1 => Self::Decode,
-            2 => Self::UnresolvedImport {
-                module: StrId(number),
-                name: StrId(second),
-            },
+            2 => Self::UnresolvedImport { module, name },
             3 => Self::OutOfRange {
                 what: by_word(&WHATS, word)?,
                 index: number,
@@ -207,10 +212,7 @@ impl LoadErrorKind {
             5 => Self::ParamMismatch,
             6 => Self::EmptyCode,
             7 => Self::FallsThrough,
-            8 => Self::ArityMismatch {
-                expected: number,
-                found: second,
-            },
+            8 => Self::ArityMismatch { expected, found },
             9 => Self::CalleeHasCaptures,
             10 => Self::PromoteNotDynamic,
             11 => Self::WrongTypeKind {
@@ -229,32 +231,15 @@ impl LoadErrorKind {
             22 => Self::BadCallShape,
             23 => Self::BadHostList,
             24 => Self::ShortSlice,
+            27 => Self::ExportNameOutOfRange(StrId(number)),
+            28 => Self::DuplicateExport(number),
             _ => return None,
         })
     }
-}
 
-/// The one with this word, from 1 up.
-fn by_word<T: Copy>(names: &[(T, &str)], word: u32) -> Option<T> {
-    let place = usize::try_from(word.checked_sub(1)?).ok()?;
-    names.get(place).map(|&(one, _)| one)
-}
-
-impl fmt::Display for What {
-    fn fmt(&self, f: &mut fmt::Formatter<'_>) -> fmt::Result {
-        f.write_str(WHATS[*self as usize - 1].1)
-    }
-}
-
-impl fmt::Display for TypeKind {
-    fn fmt(&self, f: &mut fmt::Formatter<'_>) -> fmt::Result {
-        f.write_str(TYPE_KINDS[*self as usize - 1].1)
-    }
-}
-
-impl fmt::Display for LoadErrorKind {
-    fn fmt(&self, f: &mut fmt::Formatter<'_>) -> fmt::Result {
-        f.write_str(match self {
+    /// What is wrong, without the numbers.
+    fn words(self) -> &'static str {
+        match self {
             Self::Decode => "the sheet's layout is broken",
             Self::UnresolvedImport { .. } => "no host function for an import",
             Self::OutOfRange { .. } => "a number is out of range",
@@ -285,7 +270,33 @@ impl fmt::Display for LoadErrorKind {
             Self::BadCallShape => "a call shape is wrong",
             Self::BadHostList => "the host list is broken or holds a pair twice",
             Self::ShortSlice => "table or work is shorter than 64 + 8N words",
-        })?;
+            Self::ExportNameOutOfRange(_) => "an export's name is no string of the sheet",
+            Self::DuplicateExport(_) => "an export has the name of an earlier one",
+        }
+    }
+}
+
+/// The one with this word, from 1 up.
+fn by_word<T: Copy>(names: &[(T, &str)], word: u32) -> Option<T> {
+    let place = usize::try_from(word.checked_sub(1)?).ok()?;
+    names.get(place).map(|&(one, _)| one)
+}
+
+impl fmt::Display for What {
+    fn fmt(&self, f: &mut fmt::Formatter<'_>) -> fmt::Result {
+        f.write_str(WHATS[*self as usize - 1].1)
+    }
+}
+
+impl fmt::Display for TypeKind {
+    fn fmt(&self, f: &mut fmt::Formatter<'_>) -> fmt::Result {
+        f.write_str(TYPE_KINDS[*self as usize - 1].1)
+    }
+}
+
+impl fmt::Display for LoadErrorKind {
+    fn fmt(&self, f: &mut fmt::Formatter<'_>) -> fmt::Result {
+        f.write_str(self.words())?;
         match self {
             Self::UnresolvedImport { module, name } => {
                 write!(f, ": module string {}, name string {}", module.0, name.0)
@@ -296,6 +307,8 @@ impl fmt::Display for LoadErrorKind {
             }
             Self::WrongTypeKind { expected } => write!(f, ": {expected} is wanted"),
             Self::BadHook(hook) => write!(f, ": hook {hook}"),
+            Self::ExportNameOutOfRange(name) => write!(f, ": string {}", name.0),
+            Self::DuplicateExport(place) => write!(f, ": export {place}"),
             _ => Ok(()),
         }
     }

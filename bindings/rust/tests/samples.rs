@@ -1,8 +1,8 @@
-//! The library on the samples, on chains of both editions, and on wrong words.
+//! The library on the samples, on chains and exports of both editions, and on wrong words.
 
 use paqlluri::{
     chain_length, count_structs, load, nearest, raw, table_words, work_words, BrokenLayout, Linked,
-    LoadError, LoadErrorKind, NotLinked, StrId, TypeId, MOST_WORDS,
+    LoadError, LoadErrorKind, NotLinked, StrId, TypeId, What, MOST_WORDS,
 };
 
 const EMPTY: &[u8] = include_bytes!("../../../samples/empty.sheet");
@@ -10,6 +10,8 @@ const LIFTS: &[u8] = include_bytes!("../../../samples/lifts.sheet");
 const SELF_PARENT: &[u8] = include_bytes!("../../../samples/self-parent.sheet");
 const LONGEST_CHAIN: &[u8] = include_bytes!("../../../samples/longest-chain.sheet");
 const CHAIN_TOO_LONG: &[u8] = include_bytes!("../../../samples/chain-too-long.sheet");
+const EXPORT_NAME_MISSING: &[u8] = include_bytes!("../../../samples/export-name-missing.sheet");
+const EXPORT_TWICE: &[u8] = include_bytes!("../../../samples/export-twice.sheet");
 const HOSTS: &[u8] = include_bytes!("../../../samples/hosts");
 const README: &str = include_str!("../../../README.md");
 
@@ -306,6 +308,78 @@ fn other_editions_are_broken() {
     }
 }
 
+/// Strings "a" twice, "b" and ""; a func type, a global and a function; exports of kind, name and index.
+fn exporting(edition: u32, exports: &[[u32; 3]]) -> Vec<u8> {
+    let count = exports.len() as u32;
+    let mut words = vec![edition, 35 + 3 * count];
+    words.extend([4, 1, 97, 1, 97, 1, 98, 0]);
+    words.extend([1, 0, 0, 0]);
+    words.extend([0, 0]);
+    words.extend([1, 4, 0]);
+    words.extend([1, 0, 0, 0, 0, 0, 0, 0, 0, 0, 1, 1, 0]);
+    words.extend([0, 0, count]);
+    words.extend(exports.as_flattened());
+    blocks(&words)
+}
+
+/// Edition 2 gives this kind, if any, without a place; edition 1 does so only of an index.
+fn assert_exports(exports: &[[u32; 3]], expected: Option<LoadErrorKind>) {
+    let of_index = expected.filter(|kind| matches!(kind, LoadErrorKind::OutOfRange { .. }));
+    for (edition, expected) in [(1, of_index), (2, expected)] {
+        let sheet = exporting(edition, exports);
+        let (verdict, [table, work]) = tried(&sheet, HOSTS, table_words(sheet.len()));
+        let found = verdict.err().map(|e| (e.kind(), e.func(), e.pc()));
+        let expected = expected.map(|kind| (kind, None, None));
+        assert_eq!(found, expected, "{exports:?} in edition {edition}");
+        assert_eq!(table[0], if found.is_some() { BEFORE } else { 2 });
+        assert!(work.iter().all(|&w| w == 0));
+    }
+}
+
+#[test]
+fn names_of_exports_are_read_in_edition_2() {
+    let missing = |name| Some(LoadErrorKind::ExportNameOutOfRange(StrId(name)));
+    let twice = |place| Some(LoadErrorKind::DuplicateExport(place));
+    assert_exports(&[], None);
+    assert_exports(&[[0, 0, 0], [1, 2, 0], [2, 3, 0]], None);
+    assert_exports(&[[2, 3, 0], [2, 4, 0]], missing(4));
+    assert_exports(&[[1, u32::MAX, 0]], missing(u32::MAX));
+    // Equal bytes of two strings, of a function and a type.
+    assert_exports(&[[0, 0, 0], [2, 1, 0]], twice(1));
+    assert_exports(&[[0, 2, 0], [1, 1, 0], [2, 0, 0]], twice(2));
+    assert_exports(&[[2, 0, 0], [2, 0, 0], [2, 0, 0]], twice(1));
+    assert_exports(&[[2, 3, 0], [1, 3, 0]], twice(1));
+    // The range before the repeat, and both before the next export.
+    assert_exports(&[[2, 9, 0], [2, 9, 0]], missing(9));
+    assert_exports(&[[2, 0, 0], [2, 0, 0], [2, 9, 0]], twice(1));
+}
+
+#[test]
+fn an_index_comes_before_its_name() {
+    let what = What::Types;
+    let no_type = Some(LoadErrorKind::OutOfRange { what, index: 7 });
+    assert_exports(&[[2, 9, 7]], no_type);
+    assert_exports(&[[2, 0, 0], [2, 0, 7]], no_type);
+}
+
+#[test]
+fn the_samples_of_exports() {
+    let missing = "an export's name is no string of the sheet: string 9";
+    let twice = "an export has the name of an earlier one: export 1";
+    let samples = [
+        (EXPORT_NAME_MISSING, [27, 0, 9, 0, 0, 0], missing),
+        (EXPORT_TWICE, [28, 0, 1, 0, 0, 0], twice),
+    ];
+    for (sheet, numbers, words) in samples {
+        let (verdict, [table, work]) = tried(sheet, HOSTS, table_words(sheet.len()));
+        let error = verdict.expect_err("refused");
+        assert_eq!(error.numbers(), numbers);
+        assert_eq!(error.to_string(), words);
+        assert!(table.iter().all(|&w| w == BEFORE) && work.iter().all(|&w| w == 0));
+        assert_eq!(count_structs(sheet), Ok(1));
+    }
+}
+
 #[test]
 fn structs_are_counted_from_the_declarations() {
     // A rule is broken in the last two, and none is tried.
@@ -423,8 +497,8 @@ fn numbers_go_back_and_forth() {
             }
         }
     }
-    // Each kind but 3 and 11 once with zeros, 14 and 4 words; 7 alone fits 2, 3, 8 and 19; 7 and 8 fit 2 and 8.
-    assert_eq!(seen, (22 + 14 + 4) + (14 + 3) + 2);
+    // Each kind but 3 and 11 once with zeros, 14 and 4 words; 7 alone fits 2, 3, 8, 19, 27 and 28; 7 and 8 fit 2 and 8.
+    assert_eq!(seen, (24 + 14 + 4) + (14 + 5) + 2);
     assert_eq!(LoadError::from_numbers([0, 0, 49, 0, 0, 0]), None);
 }
 
@@ -443,7 +517,8 @@ fn kinds_are_called_as_in_the_readme() {
         .split_once("Words of kind 3: ")
         .and_then(|(_, rest)| rest.split_once(".\n"))
         .expect("the words of kind 3");
-    for kind in 1..=24 {
+    // Load never gives 25 and 26.
+    for kind in (1..=24).chain([27, 28]) {
         let place = cells.iter().position(|c| *c == kind.to_string());
         let words = cells[place.expect("a row") + 1];
         let plain = words.split(" (").next().expect("words");

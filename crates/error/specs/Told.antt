@@ -6,11 +6,17 @@ use mathlib.Core.Bool.{Bool, true, false, cond}
 use lib.Dec.{eqb}
 use lib.ListN.{getD}
 use Rattle.error.specs.declared.What.{What}
-use Rattle.error.specs.declared.What.the-variants.{Types, Functions, Strings, Constants, Registers, Imports, Globals, BranchTargets, TableTargets, Tables, Names, TypeRefs, Captures, CallShapes}
+use Rattle.error.specs.declared.What.the-variants.{Types, Functions, Strings, Constants, Registers, Imports, Globals, BranchTargets}
+use Rattle.error.specs.declared.What.the-variants.{TableTargets, Tables, Names, TypeRefs, Captures, CallShapes}
 use Rattle.error.specs.declared.TypeKind.{TypeKind}
 use Rattle.error.specs.declared.TypeKind.the-variants.{Struct, Array, Map, Cell}
 use Rattle.error.specs.declared.LoadErrorKind.{LoadErrorKind}
-use Rattle.error.specs.declared.LoadErrorKind.the-variants.{Decode, UnresolvedImport, OutOfRange, BadSignature, ParamMismatch, EmptyCode, FallsThrough, ArityMismatch, CalleeHasCaptures, PromoteNotDynamic, WrongTypeKind, BadModifier, InvalidHandler, CatchNotDyn, TailCallInTry, BadParent, InheritanceTooDeep, BadConstant, BadHook, BadStart, BadParamList, BadCallShape, BadHostList, ShortSlice, NotLinked, MissedStruct}
+use Rattle.error.specs.declared.LoadErrorKind.the-variants.{Decode, UnresolvedImport, OutOfRange, BadSignature, ParamMismatch}
+use Rattle.error.specs.declared.LoadErrorKind.the-variants.{EmptyCode, FallsThrough, ArityMismatch, CalleeHasCaptures}
+use Rattle.error.specs.declared.LoadErrorKind.the-variants.{PromoteNotDynamic, WrongTypeKind, BadModifier, InvalidHandler}
+use Rattle.error.specs.declared.LoadErrorKind.the-variants.{CatchNotDyn, TailCallInTry, BadParent, InheritanceTooDeep, BadConstant}
+use Rattle.error.specs.declared.LoadErrorKind.the-variants.{BadHook, BadStart, BadParamList, BadCallShape, BadHostList, ShortSlice}
+use Rattle.error.specs.declared.LoadErrorKind.the-variants.{NotLinked, MissedStruct, ExportNameOutOfRange, DuplicateExport}
 use Rattle.error.specs.declared.LoadError.{LoadError}
 use Rattle.error.specs.declared.Loaded.{Loaded}
 use Rattle.error.specs.declared.Loaded.the-variants.{Accepted, Refused}
@@ -37,7 +43,8 @@ kindOf k w n s =
     Decode ∷ Decode ∷ UnresolvedImport (stringNumber n) (stringNumber s) ∷ OutOfRange (whatOf w) n ∷ BadSignature ∷ ParamMismatch
     ∷ EmptyCode ∷ FallsThrough ∷ ArityMismatch n s ∷ CalleeHasCaptures ∷ PromoteNotDynamic ∷ WrongTypeKind (wantedOf w)
     ∷ BadModifier ∷ InvalidHandler ∷ CatchNotDyn ∷ TailCallInTry ∷ BadParent ∷ InheritanceTooDeep ∷ BadConstant ∷ BadHook n
-    ∷ BadStart ∷ BadParamList ∷ BadCallShape ∷ BadHostList ∷ ShortSlice ∷ NotLinked ∷ MissedStruct ∷ []) k Decode
+    ∷ BadStart ∷ BadParamList ∷ BadCallShape ∷ BadHostList ∷ ShortSlice ∷ NotLinked ∷ MissedStruct
+    ∷ ExportNameOutOfRange (stringNumber n) ∷ DuplicateExport n ∷ []) k Decode
 
 refusalOf : List ℕ → LoadError
 refusalOf six =
@@ -100,6 +107,8 @@ refused-told BadHostList f p = refl
 refused-told ShortSlice f p = refl
 refused-told NotLinked f p = refl
 refused-told MissedStruct f p = refl
+refused-told (ExportNameOutOfRange name) f p = refl
+refused-told (DuplicateExport i) f p = refl
 
 numbers-told : (r : Loaded) → told (numbers r) ≡ r
 unfolding told numbers
@@ -114,7 +123,7 @@ numbers-tell r s e = sym (numbers-told r) ∙ ap told e ∙ numbers-told s
 
 pub kinds-listed : KindsListed
 unfolding KindsListed kindNumbers
-kinds-listed m n what i expected found wanted hook = refl
+kinds-listed m n what i expected found wanted hook name place = refl
 
 pub words-listed : WordsListed
 unfolding WordsListed whatWord typeKindWord

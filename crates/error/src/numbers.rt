@@ -92,6 +92,8 @@ fn refusal(k: LoadErrorKind, func: u32, pc: u32) -> SixNumbers
         LoadErrorKind::ShortSlice => at(24, 0, 0, 0, func, pc),
         LoadErrorKind::NotLinked => at(25, 0, 0, 0, func, pc),
         LoadErrorKind::MissedStruct => at(26, 0, 0, 0, func, pc),
+        LoadErrorKind::ExportNameOutOfRange(name) => at(27, 0, name.0, 0, func, pc),
+        LoadErrorKind::DuplicateExport(i) => at(28, 0, i, 0, func, pc),
     }
 }
 

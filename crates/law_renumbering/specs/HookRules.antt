@@ -1,20 +1,24 @@
 -- Rule 8 under a renumbering.
 use mathlib.Core.Path.{_≡_, refl, sym, ap, ap₂, _∙_}
-use mathlib.Core.Bool.{Bool, true, false, cond, _&&_}
+use mathlib.Core.Bool.{Bool, true, false, cond, not, _&&_, _||_}
 use mathlib.Core.List.{List, [], _∷_, map}
 use Prim.Native.Nat.{ℕ, zero, suc, _<_}
 use lib.Dec.{eqb, ltb}
-use lib.ListN.{length, getD, length-map}
-use Rattle.lists.specs.Lists.{allOf}
+use lib.ListN.{length, getD, take, length-map}
+use Rattle.lists.specs.Lists.{allOf, anyOf, same}
 use Rattle.law_faults.specs.Empty.{append-empty, range-empty}
-use Rattle.law_faults.specs.Together.{Together, both-empty, together-then, together-map, together-unless, together-range, together-each, together-all}
+use Rattle.law_faults.specs.Together.{Together, both-empty, together-then, _⊕_, together-map, together-unless, together-range}
+use Rattle.law_faults.specs.Together.{together-each-from, together-all}
 use Rattle.error.specs.declared.What.the-variants.{Types, Functions, Imports, Globals}
-use Rattle.error.specs.declared.LoadErrorKind.the-variants.{BadHook, BadStart, CalleeHasCaptures}
-use Rattle.error.specs.Answer.{inModule, unless, inRange}
+use Rattle.error.specs.declared.LoadErrorKind.the-variants.{BadHook, BadStart, CalleeHasCaptures, ExportNameOutOfRange, DuplicateExport}
+use Rattle.error.specs.Answer.{inModule, unless, inRange, stringNumber}
 use Rattle.sheet.specs.Module.{ValueType, isDyn, Import, Func, Hook, Export, Module}
+use Rattle.sheet.specs.Editions.{readsExportNames}
 use Rattle.imports.specs.Params.{sigParams, sigResults}
 use Rattle.code.specs.Callee.{funcAt, importAt}
-use Rattle.hooks.specs.Hooks.{HookShape, hookShape, resultFits, hookFits, hookFunctionFaults, hookImportFaults, hookFaults, hooksFaults, isStart, startAtFaults, startFaults, exportFaults, exportsFaults}
+use Rattle.hooks.specs.Hooks.{HookShape, hookShape, resultFits, hookFits, hookFunctionFaults, hookImportFaults, hookFaults, hooksFaults}
+use Rattle.hooks.specs.Hooks.{isStart, startAtFaults, startFaults, indexFaults, nameBytes, isDuplicate, nameFaults, exportFaults}
+use Rattle.hooks.specs.Hooks.{exportsFaults}
 use Rattle.renumber.specs.Renumber.{image, valueImage, funcImage, importImage, exportImage, renumber}
 use Rattle.law_renumbering.specs.Bijection.{Listed}
 use Rattle.law_renumbering.specs.Images.{dyn-image}
@@ -34,7 +38,8 @@ unfolding resultFits
 result-image π true vs = one-dyn-image π vs
 result-image π false vs = ap (λ (k : ℕ). eqb k 0) (length-map vs (valueImage π))
 
-hook-image : (π : ℕ → ℕ) (s : HookShape) (ps rs : List ValueType) → hookFits s (map (valueImage π) ps) (map (valueImage π) rs) ≡ hookFits s ps rs
+hook-image : (π : ℕ → ℕ) (s : HookShape) (ps rs : List ValueType) →
+    hookFits s (map (valueImage π) ps) (map (valueImage π) rs) ≡ hookFits s ps rs
 unfolding hookFits
 hook-image π s ps rs = rw (length-map ps (valueImage π), all-dyn-image π ps, result-image π (s .result) rs)
 
@@ -50,7 +55,8 @@ module _ (r : List ℕ) (m : Module) (l : Listed (length (m .types)) r) where
   func-fits h g k = hook-moved h (funcAt m g .sig)
       ∙ sym (ap (λ (f : Func). hookFits (hookShape h) (sigParams (renumber r m) (f .sig)) (sigResults (renumber r m) (f .sig))) (func-known r m l g k))
 
-  import-fits : (h g : ℕ) → g < length (m .imports) → hookFits (hookShape h) (sigParams m (importAt m g .sig)) (sigResults m (importAt m g .sig)) ≡
+  import-fits : (h g : ℕ) → g < length (m .imports) →
+      hookFits (hookShape h) (sigParams m (importAt m g .sig)) (sigResults m (importAt m g .sig)) ≡
       hookFits (hookShape h) (sigParams (renumber r m) (importAt (renumber r m) g .sig)) (sigResults (renumber r m) (importAt (renumber r m) g .sig))
   unfolding importImage
   import-fits h g k = hook-moved h (importAt m g .sig)
@@ -87,9 +93,11 @@ module _ (r : List ℕ) (m : Module) (l : Listed (length (m .types)) r) where
 
   -- ── start ──
 
-  func-results : (g : ℕ) → g < length (m .funcs) → length (sigResults m (funcAt m g .sig)) ≡ length (sigResults (renumber r m) (funcAt (renumber r m) g .sig))
+  func-results : (g : ℕ) → g < length (m .funcs) →
+      length (sigResults m (funcAt m g .sig)) ≡ length (sigResults (renumber r m) (funcAt (renumber r m) g .sig))
   unfolding funcImage
-  func-results g h = sym (ap (λ (f : Func). length (sigResults (renumber r m) (f .sig))) (func-known r m l g h) ∙ results-count r m l (funcAt m g .sig))
+  func-results g h = sym (ap (λ (f : Func). length (sigResults (renumber r m) (f .sig))) (func-known r m l g h)
+      ∙ results-count r m l (funcAt m g .sig))
 
   start-moved : (g : ℕ) → g < length (m .funcs) → isStart m (funcAt m g) ≡ isStart (renumber r m) (funcAt (renumber r m) g)
   unfolding isStart
@@ -120,10 +128,39 @@ module _ (r : List ℕ) (m : Module) (l : Listed (length (m .types)) r) where
   export-kind (suc (suc zero)) i = range-moved (moved r m l) i
   export-kind (suc (suc (suc k))) i = both-empty refl refl
 
-  export-together : (e : Export) → Together (exportFaults m e) (exportFaults (renumber r m) (exportImage (image r) e))
-  unfolding exportFaults exportImage
-  export-together e = export-kind (e .kind) (e .index)
+  index-together : (e : Export) → Together (indexFaults m e) (indexFaults (renumber r m) (exportImage (image r) e))
+  unfolding indexFaults exportImage
+  index-together e = export-kind (e .kind) (e .index)
+
+  -- a name is no mention of a type
+  duplicate-kept : (i : ℕ) (e : Export) → isDuplicate m i e ≡ isDuplicate (renumber r m) i (exportImage (image r) e)
+  unfolding isDuplicate nameBytes exportImage renumber
+  duplicate-kept i e = go i (m .exports)
+    where
+      go : (i : ℕ) (es : List Export) → anyOf (λ d. same (nameBytes m d) (nameBytes m e)) (take i es) ≡
+          anyOf (λ d. same (nameBytes (renumber r m) d) (nameBytes (renumber r m) (exportImage (image r) e)))
+          (take i (map (exportImage (image r)) es))
+      go zero es = refl
+      go (suc i) [] = refl
+      go (suc i) (d ∷ es) = ap (λ (b : Bool). same (nameBytes m d) (nameBytes m e) || b) (go i es)
+
+  name-together : (i : ℕ) (e : Export) → Together (nameFaults m i e) (nameFaults (renumber r m) i (exportImage (image r) e))
+  unfolding nameFaults exportImage renumber
+  name-together i e =
+      let k = ExportNameOutOfRange (stringNumber (e .name)) in
+      together-unless {b = ltb (e .name) (length (m .strings))} k k refl
+      ⊕ together-unless (DuplicateExport i) (DuplicateExport i) (ap not (duplicate-kept i e))
+
+  export-together : (i : ℕ) (e : Export) → Together (exportFaults m i e) (exportFaults (renumber r m) i (exportImage (image r) e))
+  unfolding exportFaults renumber
+  export-together i e = index-together e ⊕ go (readsExportNames (m .edition))
+    where
+      go : (b : Bool) → Together (cond b (nameFaults m i e) []) (cond b (nameFaults (renumber r m) i (exportImage (image r) e)) [])
+      go true = name-together i e
+      go false = both-empty refl refl
 
   pub exports-together : Together (exportsFaults m) (exportsFaults (renumber r m))
   unfolding exportsFaults renumber
-  exports-together = together-map inModule inModule (together-each (exportImage (image r)) (exportFaults m) (exportFaults (renumber r m)) export-together (m .exports))
+  exports-together =
+      together-map inModule inModule
+      (together-each-from (exportImage (image r)) (exportFaults m) (exportFaults (renumber r m)) export-together 0 (m .exports))

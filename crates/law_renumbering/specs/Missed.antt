@@ -26,19 +26,20 @@ use Rattle.funcs.specs.Funcs.{funcsFaults}
 use Rattle.code.specs.Code.{codesFaults}
 use Rattle.hooks.specs.Hooks.{hooksFaults, startFaults, exportsFaults}
 use Rattle.load.specs.Load.{moduleFaults, answer, load}
-use Rattle.load.specs.Kinds.{kindNumber, judged}
+use Rattle.load.specs.Kinds.{kindNumber, judged, ofNames, ofExports}
 use Rattle.load.specs.CodeKinds.{codes-kinds}
 use Rattle.load.specs.RuleKinds.{types-kinds, parents-kinds, consts-kinds, imports-kinds, globals-kinds, funcs-kinds, hooks-kinds, start-kinds, exports-kinds}
 use Rattle.load.specs.KindLaws.{early, first-passes, refused-cases}
 use Rattle.law_forest.specs.Accepted.{walk-complete}
 
--- the first fault, if there is one, is of kind 2 to 22
+-- the first fault, if there is one, is of kind 2 to 22, 27 or 28
 record Leads (es : List LoadError) : Type 0 where
-  lead : (l : ℕ) (e : LoadError) → first l es ≡ Refused e → judged (e .kind) ≡ true
+  lead : (l : ℕ) (e : LoadError) → first l es ≡ Refused e → ofExports (e .kind) ≡ true
 
 -- a list whose faults are all of these kinds
 leads-all : (es : List LoadError) → allOf (λ e. judged (e .kind)) es ≡ true → Leads es
-leads-all es h = record { lead = λ l e q. first-passes (λ e. judged (e .kind)) l es e h q }
+unfolding ofExports
+leads-all es h = record { lead = λ l e q. ap (λ (b : Bool). b || ofNames (e .kind)) (first-passes (λ e. judged (e .kind)) l es e h q) }
 
 -- the second part counts only where the first is empty
 leads-then : (a b : List LoadError) → Leads a → (a ≡ [] → Leads b) → Leads (a ++ b)
@@ -63,10 +64,11 @@ rules-lead most one hosts m =
     ⊕ leads-all (codesFaults m) (codes-kinds m)
     ⊕ leads-all (hooksFaults m) (hooks-kinds m)
     ⊕ leads-all (startFaults m) (start-kinds m)
-    ⊕ leads-all (exportsFaults m) (exports-kinds m)
+    ⊕ record { lead = λ l e q. first-passes (λ e. ofExports (e .kind)) l (exportsFaults m) e (exports-kinds m) q }
 
--- load refuses for 1, 23 and 24, and for 2 to 22: for no other kind
-pub kinds-given : (sheet hosts : List ℕ) (table work : ℕ) (e : LoadError) → load sheet hosts table work ≡ Refused e → (early (e .kind) || judged (e .kind)) ≡ true
+-- load refuses for 1, 23 and 24, for 2 to 22, and for 27 and 28: for no other kind
+pub kinds-given : (sheet hosts : List ℕ) (table work : ℕ) (e : LoadError) → load sheet hosts table work ≡ Refused e →
+    (early (e .kind) || ofExports (e .kind)) ≡ true
 unfolding answer
 kinds-given sheet hosts table work e q = refused-cases sheet hosts table work e q
     (λ t. rw t)
@@ -81,8 +83,8 @@ kinds-given sheet hosts table work e q = refused-cases sheet hosts table work e 
 
 -- 26 is never given
 pub missed-never : (sheet hosts : List ℕ) (table work : ℕ) (e : LoadError) → load sheet hosts table work ≡ Refused e → e .kind ≡ MissedStruct → ⊥
-unfolding early judged kindNumber kindNumbers
+unfolding early ofExports judged ofNames kindNumber kindNumbers
 missed-never sheet hosts table work e q n =
     let t = kinds-given sheet hosts table work e q in
-    let f : (early (e .kind) || judged (e .kind)) ≡ false = ap (λ (k : LoadErrorKind). early k || judged k) n in
+    let f : (early (e .kind) || ofExports (e .kind)) ≡ false = ap (λ (k : LoadErrorKind). early k || ofExports k) n in
     let z : _≡_ {A = ℕ} 0 1 = cc in omega arith

@@ -8,7 +8,8 @@ use lib.ListN.{take, replicate}
 use Rattle.lists.specs.Lists.{allOf, same, from}
 use Rattle.blocks.specs.Blocks.{titled, written}
 use Rattle.error.specs.Answer.{numbers, refusal}
-use Rattle.sheet.specs.Module.{ValueType, ref, dyn, TypeDef, func, struct, coroutine, Const, Func, Handler, Inst, Hook, Module, noModule}
+use Rattle.sheet.specs.Module.{ValueType, ref, dyn, TypeDef, func, struct, coroutine, Const, Func, Handler, Inst, Hook, Export, Module}
+use Rattle.sheet.specs.Module.{noModule}
 use Rattle.sheet.specs.Encode.{sheetOf}
 use Rattle.host.specs.Host.{hostsOf}
 use Rattle.table.specs.Records.{catchTable, noHandler}
@@ -104,6 +105,51 @@ abbrev hooked : List ValueType → Module
 hooked results =
     moduleOf (taking (dyn ∷ dyn ∷ dyn ∷ []) results ∷ []) [] (function 0 3 [] (retVoid ∷ []) ∷ []) (record { hook = 7; kind = 0; index = 0 } ∷ [])
 
+-- a function, a type, and exports under these strings
+abbrev exporting : ℕ → List (List ℕ) → List Export → Module
+exporting e strings es =
+    record {
+      edition = e;
+      strings = strings;
+      types = taking [] [] ∷ [];
+      consts = [];
+      imports = [];
+      globals = [];
+      funcs = function 0 0 [] (retVoid ∷ []) ∷ [];
+      hooks = [];
+      start+ = 0;
+      exports = es;
+    }
+
+abbrev asFunction : ℕ → ℕ → Export
+asFunction n i = record { kind = 0; name = n; index = i }
+
+abbrev asType : ℕ → ℕ → Export
+asType n i = record { kind = 2; name = n; index = i }
+
+-- "a", once and twice
+abbrev a : List (List ℕ)
+a = (97 ∷ []) ∷ []
+
+abbrev aTwice : List (List ℕ)
+aTwice = a ++ a
+
+-- a name that is no string; a name twice; three times; by two strings; of a function and a type
+abbrev noName : List Export
+noName = asType 9 0 ∷ []
+
+abbrev twice : List Export
+twice = asType 0 0 ∷ asType 0 0 ∷ []
+
+abbrev thrice : List Export
+thrice = asType 0 0 ∷ twice
+
+abbrev byTwoStrings : List Export
+byTwoStrings = asType 0 0 ∷ asType 1 0 ∷ []
+
+abbrev ofTwoKinds : List Export
+ofTwoKinds = asFunction 0 0 ∷ asType 0 0 ∷ []
+
 -- ── what the definitions give ──
 
 -- does t descend from a, by the table
@@ -150,6 +196,10 @@ seven = replicate 7 retVoid
 abbrev passes : List ℕ
 passes = 0 ∷ []
 
+-- 27 with a name's number, 28 with an export's place
+abbrev named : ℕ → ℕ → List ℕ
+named kind n = kind ∷ 0 ∷ n ∷ 0 ∷ 0 ∷ 0 ∷ []
+
 -- ── the rows ──
 
 -- the two long chains are the last
@@ -186,6 +236,18 @@ rows =
     ∷ (answerOf (typesIn 3 []), refusal 1)
     ∷ (answerOf (typesIn 0 []), refusal 1)
     ∷ (numbers (load emptySheet (written (titled 2 (0 ∷ []))) room room), refusal 23)
+    ∷ (answerOf (exporting 2 a noName), named 27 9)
+    ∷ (answerOf (exporting 2 a (noName ++ (asType 0 7 ∷ []))), named 27 9)
+    ∷ (answerOf (exporting 2 a (asType 9 7 ∷ [])), 3 ∷ 1 ∷ 7 ∷ 0 ∷ 0 ∷ 0 ∷ [])
+    ∷ (answerOf (exporting 2 a (asType 0 0 ∷ asType 0 7 ∷ [])), 3 ∷ 1 ∷ 7 ∷ 0 ∷ 0 ∷ 0 ∷ [])
+    ∷ (answerOf (exporting 2 a twice), named 28 1)
+    ∷ (answerOf (exporting 2 a (twice ++ noName)), named 28 1)
+    ∷ (answerOf (exporting 2 a thrice), named 28 1)
+    ∷ (answerOf (exporting 2 aTwice byTwoStrings), named 28 1)
+    ∷ (answerOf (exporting 2 a ofTwoKinds), named 28 1)
+    ∷ (answerOf (exporting 2 ([] ∷ a) (asType 0 0 ∷ asType 1 0 ∷ asType 2 0 ∷ [])), named 27 2)
+    ∷ (kindOf (exporting 2 ([] ∷ a) (asType 0 0 ∷ asType 1 0 ∷ [])), passes)
+    ∷ (kindOf (exporting 1 aTwice (noName ++ thrice ++ byTwoStrings ++ ofTwoKinds)), passes)
     ∷ (kindOf (ofTypes (chainOf 256)), passes)
     ∷ (answerOf (ofTypes (chainOf 257)), refusal 17)
     ∷ []

@@ -23,7 +23,7 @@ use Rattle.sheet.specs.Editions.{mostOf}
 use Rattle.table.specs.Table.{tableOf}
 use Rattle.load.specs.Load.{faultsOf, longEnough, Opened, refused, opened, withHosts, withModule, opening, answer, load}
 use Rattle.load.specs.LoadLaws.{module-opened}
-use Rattle.load.specs.Kinds.{kindNumber, judged, ofRules}
+use Rattle.load.specs.Kinds.{kindNumber, judged, beforeExports, ofNames, ofRules}
 use Rattle.load.specs.RuleKinds.{rules-kinds}
 
 -- ── the kinds that are given before any rule ──
@@ -34,10 +34,11 @@ early k = contains (1 ∷ 23 ∷ 24 ∷ []) (kindNumber k)
 
 -- no rule gives them
 pub early-apart : (k : LoadErrorKind) → early k ≡ true → ofRules k ≡ false
-unfolding early ofRules judged
+unfolding early ofRules beforeExports judged ofNames
 early-apart k h = go (kindNumber k) (eqb (kindNumber k) 1) (eqb (kindNumber k) 23) (eqb (kindNumber k) 24) refl refl refl h
   where
-    go : (n : ℕ) (a b c : Bool) → eqb n 1 ≡ a → eqb n 23 ≡ b → eqb n 24 ≡ c → (a || (b || (c || false))) ≡ true → (ltb 1 n && ltb n 23 || eqb n 26) ≡ false
+    go : (n : ℕ) (a b c : Bool) → eqb n 1 ≡ a → eqb n 23 ≡ b → eqb n 24 ≡ c → (a || (b || (c || false))) ≡ true →
+        (ltb 1 n && ltb n 23 || eqb n 26 || contains (27 ∷ 28 ∷ []) n) ≡ false
     go n true b c p q r h = rw (eqb-true n 1 p)
     go n false true c p q r h = rw (eqb-true n 23 q)
     go n false false true p q r h = rw (eqb-true n 24 r)
@@ -130,14 +131,14 @@ module _ (sheet hosts : List ℕ) (table work : ℕ) where
 
   -- 1: the sheet does not decode
   pub broken-sheet : (load sheet hosts table work ≡ Refused (inModule Decode)) ↔ (decode sheet ≡ none)
-  unfolding load opening withModule ofRules judged kindNumber kindNumbers
+  unfolding load opening withModule ofRules beforeExports judged ofNames kindNumber kindNumbers
   broken-sheet =
       let f = early-answer Decode refl (opening sheet hosts table work) in
       (λ q. no-sheet (longEnough sheet table work) (decode sheet) (decodeHosts hosts) (f .0 q), λ q. f .1 (rw q))
 
   -- 23: the sheet decodes, the host list does not
   pub broken-hosts : (load sheet hosts table work ≡ Refused (inModule BadHostList)) ↔ (Given (decode sheet) × (decodeHosts hosts ≡ none))
-  unfolding load opening withModule withHosts ofRules judged kindNumber kindNumbers
+  unfolding load opening withModule withHosts ofRules beforeExports judged ofNames kindNumber kindNumbers
   broken-hosts =
       let f = early-answer BadHostList refl (opening sheet hosts table work) in
       (λ q. no-hosts (longEnough sheet table work) (decode sheet) (decodeHosts hosts) (f .0 q), λ h. f .1 (rw (h .0 .given, h .1)))
@@ -145,7 +146,7 @@ module _ (sheet hosts : List ℕ) (table work : ℕ) where
   -- 24: both decode, table or work is too short
   pub short-slice : (load sheet hosts table work ≡ Refused (inModule ShortSlice))
       ↔ (Given (decode sheet) × Given (decodeHosts hosts) × (longEnough sheet table work ≡ false))
-  unfolding load opening withModule withHosts ofRules judged kindNumber kindNumbers
+  unfolding load opening withModule withHosts ofRules beforeExports judged ofNames kindNumber kindNumbers
   short-slice =
       let f = early-answer ShortSlice refl (opening sheet hosts table work) in
       (λ q. no-room (longEnough sheet table work) (decode sheet) (decodeHosts hosts) (f .0 q), λ h. f .1 (rw (h .2, h .0 .given, h .1 .given)))
@@ -188,7 +189,7 @@ module _ (sheet hosts : List ℕ) (table work : ℕ) where
 
   -- 25 is the family query's alone
   pub never-not-linked : (e : LoadError) → load sheet hosts table work ≡ Refused e → e .kind ≡ NotLinked → ⊥
-  unfolding early ofRules judged kindNumber kindNumbers
+  unfolding early ofRules beforeExports judged ofNames kindNumber kindNumbers
   never-not-linked e q n = refused-cases e q
       (λ t. let f : early (e .kind) ≡ false = ap early n in let z : _≡_ {A = ℕ} 0 1 = cc in omega arith)
       (λ m hs a. let t = opened-refused m hs e a in let f : ofRules (e .kind) ≡ false = ap ofRules n in let z : _≡_ {A = ℕ} 0 1 = cc in omega arith)

@@ -1,11 +1,11 @@
 -- The kinds that the rules give, and tests of a list of faults.
 use Prim.Native.Nat.{ℕ}
 use mathlib.Core.Path.{_≡_, refl, ap}
-use mathlib.Core.List.{List, map}
+use mathlib.Core.List.{List, [], _∷_, map}
 use mathlib.Core.Bool.{Bool, true, false, _&&_, _||_}
 use lib.Dec.{eqb, ltb}
 use lib.ListN.{getD}
-use Rattle.lists.specs.Lists.{allOf}
+use Rattle.lists.specs.Lists.{allOf, contains}
 use Rattle.lists.specs.AllLaws.{all-join, all-map, all-each, all-each-from}
 use Rattle.error.specs.declared.LoadErrorKind.{LoadErrorKind}
 use Rattle.error.specs.declared.LoadError.{LoadError}
@@ -15,13 +15,25 @@ use Rattle.error.specs.Answer.{kindNumbers, unless}
 unfoldable pub kindNumber : LoadErrorKind → ℕ
 kindNumber k = getD (kindNumbers k) 0 0
 
--- kinds 2 to 22: all rules but the walk give no others
+-- kinds 2 to 22: all rules but the walk and the names of exports give no others
 unfoldable pub judged : LoadErrorKind → Bool
 judged k = ltb 1 (kindNumber k) && ltb (kindNumber k) 23
 
+-- 26 too: the kinds of all rules before exports
+unfoldable pub beforeExports : LoadErrorKind → Bool
+beforeExports k = judged k || eqb (kindNumber k) 26
+
+-- 27 and 28, of the names of exports
+unfoldable pub ofNames : LoadErrorKind → Bool
+ofNames k = contains (27 ∷ 28 ∷ []) (kindNumber k)
+
+-- of an export: of its index, or of its name
+unfoldable pub ofExports : LoadErrorKind → Bool
+ofExports k = judged k || ofNames k
+
 -- the kinds that the rules give: not 1, 23, 24, 25
 unfoldable pub ofRules : LoadErrorKind → Bool
-ofRules k = judged k || eqb (kindNumber k) 26
+ofRules k = beforeExports k || ofNames k
 
 -- ── a list of faults, by its parts ──
 

@@ -1,31 +1,35 @@
--- The rules give the kinds 2 to 22 and 26 only.
+-- The rules give the kinds 2 to 22 and 26 to 28 only.
 use Prim.Native.Nat.{ℕ, zero, suc}
-use mathlib.Core.Path.{_≡_, refl, _∙_}
-use mathlib.Core.List.{List, [], _∷_, map}
-use mathlib.Core.Bool.{Bool, true, false, cond}
+use mathlib.Core.Path.{_≡_, refl, ap, _∙_}
+use mathlib.Core.List.{List, [], _∷_, _++_, map}
+use mathlib.Core.Bool.{Bool, true, false, cond, _||_, or-true}
 use mathlib.Core.Option.{none, some}
 use lib.Dec.{eqb}
 use lib.ListN.{length, getD}
 use Rattle.lists.specs.Lists.{allOf, concatMapFrom}
-use Rattle.lists.specs.ListLaws.{all-imp}
-use Rattle.lists.specs.AllLaws.{all-join, all-map}
+use Rattle.lists.specs.ListLaws.{all-imp, all-append}
+use Rattle.lists.specs.AllLaws.{all-join, all-map, all-each-from}
 use Rattle.error.specs.declared.What.the-variants.{Types, Functions, Globals}
 use Rattle.error.specs.declared.LoadError.{LoadError}
 use Rattle.error.specs.Answer.{kindNumbers, inModule, inRange}
-use Rattle.sheet.specs.Module.{ValueType, basic, ref, Struct, Sig, TypeDef, func, struct, cell, iter, coroutine, Const, plain, ParamList, Import, Func, Hook, Export, Module}
+use Rattle.sheet.specs.Module.{ValueType, basic, ref, Struct, Sig, TypeDef, func, struct, cell, iter, coroutine, Const, plain, ParamList}
+use Rattle.sheet.specs.Module.{Import, Func, Hook, Export, Module}
+use Rattle.sheet.specs.Editions.{readsExportNames}
 use Rattle.host.specs.Host.{HostFn}
 use Rattle.types.specs.Types.{valueFaults, stringFaults, functionFaults, methodFaults, structFaults, sigFaults, typeFaults, typesFaults}
 use Rattle.parents.specs.Forest.{Entry, other, root, sub}
 use Rattle.parents.specs.Parents.{childFaults, parentFaults, parentsFaults}
 use Rattle.spans.specs.Spans.{order, missedFaults, walkFaults}
-use Rattle.consts.specs.Consts.{stringConstFaults, constFaults, constsFaults}
+use Rattle.consts.specs.Consts.{mostDeep, stringConstFaults, constFaults, constsFaults}
 use Rattle.imports.specs.Params.{signatureFaults, paramListFaults}
 use Rattle.imports.specs.Imports.{importFaults, importsFaults, initFaults, globalFaults, globalsFaults}
 use Rattle.funcs.specs.Shapes.{shapeFaults}
 use Rattle.funcs.specs.Funcs.{typeRefFaults, funcFaults, funcsFaults}
-use Rattle.hooks.specs.Hooks.{hookFunctionFaults, hookImportFaults, hookFaults, hooksFaults, startAtFaults, startFaults, exportFaults, exportsFaults}
+use Rattle.code.specs.Code.{codesFaults}
+use Rattle.hooks.specs.Hooks.{hookFunctionFaults, hookImportFaults, hookFaults, hooksFaults, startAtFaults, startFaults, indexFaults}
+use Rattle.hooks.specs.Hooks.{nameFaults, exportFaults, exportsFaults}
 use Rattle.load.specs.Load.{moduleFaults}
-use Rattle.load.specs.Kinds.{kindNumber, judged, ofRules, parts}
+use Rattle.load.specs.Kinds.{kindNumber, judged, beforeExports, ofNames, ofExports, ofRules, parts}
 use Rattle.load.specs.CodeKinds.{codes-kinds}
 
 -- each law, named for its definition: the faults of one rule, or of one part of it, are of kinds 2 to 22
@@ -150,9 +154,9 @@ pub start-kinds : (m : Module) → allOf (λ e. judged (e .kind)) (startFaults m
 unfolding startFaults
 start-kinds m = simp (parts, start-at-kinds)
 
-export-kinds : (m : Module) (e : Export) → allOf judged (exportFaults m e) ≡ true
-unfolding exportFaults judged kindNumber kindNumbers
-export-kinds m e = go (e .kind)
+pub index-kinds : (m : Module) (e : Export) → allOf judged (indexFaults m e) ≡ true
+unfolding indexFaults judged kindNumber kindNumbers
+index-kinds m e = go (e .kind)
   where
     go : (k : ℕ) → allOf judged (getD (inRange Functions (length (m .funcs)) (e .index) ∷ inRange Globals (length (m .globals)) (e .index) ∷ inRange Types (length (m .types)) (e .index) ∷ []) k []) ≡ true
     go zero = simp parts
@@ -160,23 +164,78 @@ export-kinds m e = go (e .kind)
     go (suc (suc zero)) = simp parts
     go (suc (suc (suc k))) = refl
 
-pub exports-kinds : (m : Module) → allOf (λ e. judged (e .kind)) (exportsFaults m) ≡ true
+name-kinds : (m : Module) (i : ℕ) (e : Export) → allOf ofNames (nameFaults m i e) ≡ true
+unfolding nameFaults ofNames kindNumber kindNumbers
+name-kinds m i e = simp parts
+
+export-kinds : (m : Module) (i : ℕ) (e : Export) → allOf ofExports (exportFaults m i e) ≡ true
+unfolding exportFaults ofExports
+export-kinds m i e =
+    all-append ofExports (indexFaults m e) (cond (readsExportNames (m .edition)) (nameFaults m i e) [])
+    (all-imp judged ofExports (λ k h. rw h) (indexFaults m e) (index-kinds m e)) (go (readsExportNames (m .edition)))
+  where
+    go : (b : Bool) → allOf ofExports (cond b (nameFaults m i e) []) ≡ true
+    go true = all-imp ofNames ofExports (λ k h. ap (λ (c : Bool). judged k || c) h
+        ∙ or-true (judged k)) (nameFaults m i e) (name-kinds m i e)
+    go false = refl
+
+pub exports-kinds : (m : Module) → allOf (λ e. ofExports (e .kind)) (exportsFaults m) ≡ true
 unfolding exportsFaults
-exports-kinds m = simp (parts, export-kinds)
+exports-kinds m =
+    all-map (λ e. ofExports (e .kind)) ofExports inModule (λ k. refl) (concatMapFrom 0 (exportFaults m) (m .exports))
+    ∙ all-each-from ofExports (exportFaults m) (export-kinds m) 0 (m .exports)
 
 -- ── all rules ──
 
 -- the walk gives 26 only
-pub walk-kinds : (most : ℕ) (m : Module) → allOf (λ e. ofRules (e .kind)) (walkFaults most m) ≡ true
-unfolding walkFaults missedFaults ofRules judged kindNumber kindNumbers
-walk-kinds most m = all-map (λ e. ofRules (e .kind)) ofRules inModule (λ k. refl) (concatMapFrom 0 (missedFaults (order most (m .types))) (m .types)) ∙ simp parts
+pub walk-kinds : (most : ℕ) (m : Module) → allOf (λ e. beforeExports (e .kind)) (walkFaults most m) ≡ true
+unfolding walkFaults missedFaults beforeExports judged kindNumber kindNumbers
+walk-kinds most m =
+    let missed = concatMapFrom 0 (missedFaults (order most (m .types))) (m .types) in
+    all-map (λ e. beforeExports (e .kind)) beforeExports inModule (λ k. refl) missed ∙ simp parts
 
--- 2 to 22 are kinds of the rules
-judged-of : (es : List LoadError) → allOf (λ e. judged (e .kind)) es ≡ true → allOf (λ e. ofRules (e .kind)) es ≡ true
-unfolding ofRules
-judged-of es h = all-imp (λ e. judged (e .kind)) (λ e. ofRules (e .kind)) (λ e k. rw k) es h
+-- 2 to 22 are among the kinds before exports
+judged-before : (es : List LoadError) → allOf (λ e. judged (e .kind)) es ≡ true → allOf (λ e. beforeExports (e .kind)) es ≡ true
+unfolding beforeExports
+judged-before es h = all-imp (λ e. judged (e .kind)) (λ e. beforeExports (e .kind)) (λ e k. rw k) es h
+
+-- all rules before exports
+abbrev pub earlierFaults : ℕ → List HostFn → Module → List LoadError
+earlierFaults most hosts m =
+    typesFaults m ++ parentsFaults most m ++ walkFaults most m ++ constsFaults mostDeep m ++ importsFaults hosts m ++ globalsFaults m
+    ++ funcsFaults m ++ codesFaults m ++ hooksFaults m ++ startFaults m
+
+pub earlier-kinds : (most : ℕ) (hosts : List HostFn) (m : Module) → allOf (λ e. beforeExports (e .kind)) (earlierFaults most hosts m) ≡ true
+earlier-kinds most hosts m =
+    simp (
+      all-join,
+      walk-kinds,
+      judged-before,
+      types-kinds,
+      parents-kinds,
+      consts-kinds,
+      imports-kinds,
+      globals-kinds,
+      funcs-kinds,
+      codes-kinds,
+      hooks-kinds,
+      start-kinds,
+    )
 
 -- every fault that the rules find is of one of their kinds
 pub rules-kinds : (most : ℕ) (hosts : List HostFn) (m : Module) → allOf (λ e. ofRules (e .kind)) (moduleFaults most hosts m) ≡ true
-unfolding moduleFaults
-rules-kinds most hosts m = simp (all-join, walk-kinds, judged-of, types-kinds, parents-kinds, consts-kinds, imports-kinds, globals-kinds, funcs-kinds, codes-kinds, hooks-kinds, start-kinds, exports-kinds)
+unfolding moduleFaults ofRules ofExports beforeExports
+rules-kinds most hosts m =
+    let earlier = earlierFaults most hosts m in
+    let exports = exportsFaults m in
+    let walked : LoadError → Bool = λ e. eqb (kindNumber (e .kind)) 26 in
+    all-append (λ e. ofRules (e .kind)) earlier exports
+    (all-imp (λ e. beforeExports (e .kind)) (λ e. ofRules (e .kind)) (λ e k. ap (λ (b : Bool). b || ofNames (e .kind)) k) earlier
+    (earlier-kinds most hosts m))
+    (all-imp (λ e. ofExports (e .kind)) (λ e. ofRules (e .kind)) (λ e k. inside (judged (e .kind)) (ofNames (e .kind)) (walked e) k) exports
+    (exports-kinds m))
+  where
+    inside : (a b c : Bool) → (a || b) ≡ true → (a || c || b) ≡ true
+    inside true b c h = refl
+    inside false b true h = refl
+    inside false b false h = h

@@ -72,3 +72,7 @@ pub record Captured (ws w : List ℕ) (o : Opened) : Type 0 where
 -- v is w but for the free words
 unfoldable pub Kept : Opened → List ℕ → List ℕ → Type 0
 Kept o w v = Frame (λ k. k < 5 * o .layout .words) w v
+
+-- v is w but for the words from 6 * words on
+unfoldable pub Above : Opened → List ℕ → List ℕ → Type 0
+Above o w v = Frame (λ k. k < 6 * o .layout .words) w v

@@ -1,19 +1,16 @@
 -- What is known of a sheet that is ready.
 use Prim.Native.Nat.{ℕ, _+_, _*_, _≤_, _<_}
-use mathlib.Core.Path.{_≡_, refl, sym, ap, _∙_}
-use mathlib.Core.List.{List, []}
-use mathlib.Core.Option.{none}
+use mathlib.Core.Path.{_≡_, ap, _∙_}
+use mathlib.Core.List.{List}
 use native.Mathlib.Omega.{arith}
 use lib.ListN.{length, getD}
-use Rattle.lists.specs.ListLaws.{getD-other}
 use Rattle.reader.specs.Reader.{got, Reader}
 use Rattle.reader.specs.Text.{string}
 use Rattle.reader.specs.Value.{Whole, valueOf}
 use Rattle.reader.specs.ValueLaws.{got-whole, value-got}
-use Rattle.sheet.specs.Module.{TypeDef, coroutine, typeAt, Const, Import, Func, Module}
+use Rattle.sheet.specs.Module.{coroutine, typeAt}
 use Rattle.sheet.specs.Decode.{typeDef, constOf, importOf, functionOf}
 use Rattle.sheet.specs.Editions.{mostOnChain, mostOf}
-use Rattle.open_layout.specs.LayoutLaws.{Located}
 use Rattle.open_layout.specs.Opened.{moduleIn}
 use Rattle.open_index.specs.declared.Index.{Index}
 use Rattle.open_index.specs.Index.{indexOf}
@@ -23,7 +20,7 @@ use Rattle.region.specs.Region.{Frame}
 use Rattle.region.specs.RegionLaws.{frame-refl, frame-then}
 use Rattle.open_sheet.specs.declared.Counts.{Counts}
 use Rattle.open_sheet.specs.declared.Opened.{Opened}
-use Rattle.open_sheet.specs.Ready.{countsOf, Opens, Entries, Ready, Kept, posAt}
+use Rattle.open_sheet.specs.Ready.{countsOf, Opens, Entries, Ready, Captured, Kept, Above, posAt}
 
 -- ── counts ──
 
@@ -204,3 +201,31 @@ module _ (o : Opened) where
   pub kept-then : (w v u : List ℕ) → Kept o w v → Kept o v u → Kept o w u
   unfolding Kept
   kept-then w v u f g = frame-then (λ k. k < 5 * o .layout .words) (λ k. k < 5 * o .layout .words) (λ k. k < 5 * o .layout .words) w v u (λ k h. h) (λ k h. h) f g
+
+-- ── only words from 6 * words on were written ──
+
+module _ (o : Opened) where
+  pub above-refl : (w : List ℕ) → Above o w w
+  unfolding Above
+  above-refl w = frame-refl (λ k. k < 6 * o .layout .words) w
+
+  pub above-then : (u v w : List ℕ) → Above o u v → Above o v w → Above o u w
+  unfolding Above
+  above-then u v w f g =
+      let low : ℕ → Type 0 = λ k. k < 6 * o .layout .words in
+      frame-then low low low u v w (λ k h. h) (λ k h. h) f g
+
+  pub above-length : (w v : List ℕ) → Above o w v → length v ≡ length w
+  unfolding Above
+  above-length w v a = a .len
+
+  module _ (ws w v : List ℕ) (x : Ready ws w o) (a : Above o w v) where
+    pub ready-above : Ready ws v o
+    unfolding Above
+    ready-above = ready-below ws w o x v (record { len = a .len; same = λ k h. a .same k (omega arith) })
+
+    pub captured-above : Captured ws w o → Captured ws v o
+    unfolding Above
+    captured-above y = record {
+      captures = λ f d h. a .same (4 * o .layout .words + f) (omega (arith, funcs-inside ws w o x)) ∙ y .captures f d h;
+    }

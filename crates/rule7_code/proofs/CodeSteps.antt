@@ -17,15 +17,14 @@ use Rattle.open_layout.specs.Opened.{moduleIn}
 use Rattle.code.specs.Callee.{noFunc, funcAt}
 use Rattle.code.specs.Code.{lastFaults, codeFaults, codesFaults}
 use Rattle.region.specs.Region.{Off, Frame}
-use Rattle.region.specs.RegionLaws.{frame-refl, frame-then}
 use Rattle.open_sheet.specs.declared.Opened.{Opened}
-use Rattle.open_sheet.specs.Ready.{Ready, Captured}
-use Rattle.open_sheet.specs.ReadyLaws.{count-funcs, funcs-inside, ready-below}
+use Rattle.open_sheet.specs.Ready.{Ready, Captured, Above}
+use Rattle.open_sheet.specs.ReadyLaws.{count-funcs, funcs-inside, above-refl, above-then, ready-above, captured-above}
 use Rattle.law_judging.specs.Clearing.{Clears, clears-start, clears-passed, clears-on, clears-refused}
 use Rattle.rule_frames.specs.declared.Frame as frames
 use Rattle.rule_frames.specs.Frames.{funcOf, Framed, Shaped}
 use Rattle.rule7_parts.specs.CodeParts.{handlersFaults, tablesFaults, partsFaults}
-use Rattle.rule7_code.specs.Sweep.{instsFaults, Ends, Marked, Above}
+use Rattle.rule7_code.specs.Sweep.{instsFaults, Ends, Marked}
 use Rattle.rule7_code.proofs.MarkSteps.{none-here, none-left}
 use Rattle.rule7_parts.proofs.LastSteps.{code-inside}
 
@@ -66,10 +65,6 @@ module _ (ws : List ℕ) (c : frames.Frame) (f : FuncId) {r : Judged} (h : c .fu
 -- ── what stays as it was ──
 
 module _ (o : Opened) where
-  pub above-refl : (w : List ℕ) → Above o w w
-  unfolding Above
-  above-refl w = frame-refl (λ k. k < 6 * o .layout .words) w
-
   above-shapes : (w v : List ℕ) (n : ℕ) → Frame (Off (7 * o .layout .words) (7 * o .layout .words + n)) w v → Above o w v
   unfolding Above
   above-shapes w v n f = record { len = f .len; same = λ k h. f .same k (λ a b. omega arith) }
@@ -77,23 +72,6 @@ module _ (o : Opened) where
   above-marked : (ws w v : List ℕ) (c : frames.Frame) → Marked ws w v o c → Above o w v
   unfolding Above
   above-marked ws w v c x = record { len = x .frame .len; same = λ k h. x .frame .same k (λ a b. omega arith) }
-
-  above-then : (u v w : List ℕ) → Above o u v → Above o v w → Above o u w
-  unfolding Above
-  above-then u v w f g = frame-then (λ k. k < 6 * o .layout .words) (λ k. k < 6 * o .layout .words) (λ k. k < 6 * o .layout .words) u v w (λ k h. h) (λ k h. h) f g
-
-  module _ (ws w v : List ℕ) (x : Ready ws w o) (a : Above o w v) where
-    ready-above : Ready ws v o
-    unfolding Above
-    ready-above = ready-below ws w o x v (record { len = a .len; same = λ k h. a .same k (omega arith) })
-
-    captured-above : Captured ws w o → Captured ws v o
-    unfolding Above
-    captured-above y = record { captures = λ f d h. a .same (4 * o .layout .words + f) (omega (arith, funcs-inside ws w o x)) ∙ y .captures f d h }
-
-pub above-length : (o : Opened) (w v : List ℕ) → Above o w v → length v ≡ length w
-unfolding Above
-above-length o w v x = x .len
 
 -- a function's number is small
 pub func-few : (ws w : List ℕ) (o : Opened) (c : frames.Frame) → Ready ws w o → Framed ws c → o .layout .words ≤ 520192 → c .func .0 + 1 < 4294967296

@@ -42,7 +42,3 @@ pub record Ends (ws w : List ℕ) (o : Opened) (c : frames.Frame) : Type 0 where
 pub record Marked (ws w₀ w : List ℕ) (o : Opened) (c : frames.Frame) : Type 0 where
   pub frame : Frame (Off (6 * o .layout .words) (6 * o .layout .words + c .code)) w₀ w
   pub ends : Ends ws w o c
-
--- only words from 6 * words on were written
-unfoldable pub Above : Opened → List ℕ → List ℕ → Type 0
-Above o w v = Frame (λ k. k < 6 * o .layout .words) w v

@@ -1,9 +1,9 @@
 -- The groups one after the other, and what each asks of the one before.
-use Prim.Native.Nat.{ℕ, _+_, _*_, _≤_, _<_}
+use Prim.Native.Nat.{ℕ, _+_, _*_, _<_}
 use mathlib.Core.Path.{_≡_, refl, sym, ap, subst, _∙_}
-use mathlib.Core.List.{List, [], _∷_, _++_}
+use mathlib.Core.List.{List, _++_}
 use native.Mathlib.Omega.{arith}
-use lib.ListN.{length, getD}
+use lib.ListN.{length}
 use Rattle.lists.specs.ListLaws.{getD-other}
 use Rattle.error.specs.declared.LoadError.{LoadError}
 use Rattle.error.specs.declared.Judged.{Judged}
@@ -16,7 +16,7 @@ use Rattle.open_layout.specs.Opened.{moduleIn}
 use Rattle.types.specs.Types.{typesFaults}
 use Rattle.sheet.specs.Editions.{mostOnChain, mostOf}
 use Rattle.parents.specs.Parents.{parentsFaults}
-use Rattle.consts.specs.Consts.{mostDeep, constsFaults}
+use Rattle.consts.specs.Consts.{constsFaults}
 use Rattle.imports.specs.Imports.{importsFaults, globalsFaults}
 use Rattle.funcs.specs.Funcs.{funcsFaults}
 use Rattle.code.specs.Callee.{noFunc, funcAt}
@@ -26,10 +26,10 @@ use Rattle.load.specs.Load.{faultsOf}
 use Rattle.region.specs.Region.{wordAt, Off, Frame}
 use Rattle.region.specs.RegionLaws.{frame-then}
 use Rattle.open_sheet.specs.declared.Opened.{Opened}
-use Rattle.open_sheet.specs.Ready.{Opens, Ready, Kept, Captured}
-use Rattle.open_sheet.specs.ReadyLaws.{count-funcs, funcs-inside, ready-below, ready-kept, ready-most, kept-same}
+use Rattle.open_sheet.specs.Ready.{Ready, Kept, Above, Captured}
+use Rattle.open_sheet.specs.ReadyLaws.{count-funcs, funcs-inside, ready-below, ready-most, kept-same, above-refl, above-then, ready-above}
+use Rattle.open_sheet.specs.ReadyLaws.{captured-above}
 use Rattle.rule_bodies.specs.Bodies.{Countable}
-use Rattle.rule7_code.specs.Sweep.{Above}
 use Rattle.rule5_imports.specs.Links.{HostEntries, LinkedIf}
 use Rattle.rules.specs.Groups.{frontFaults, recordFaults, endFaults, bodyFaults, LinksKept}
 use Rattle.rules.specs.GroupLaws.{in-groups, front-types, links-ready, links-linked, linked-refused}
@@ -40,7 +40,8 @@ module _ (a b c : List LoadError) where
   first-stop : {r : Judged} (e : LoadError) → r ≡ Refused e → r ≡ judgedOf a → Refused e ≡ judgedOf (a ++ b ++ c)
   first-stop e h k = judged-stop (a ++ b) c e refl (judged-stop a b e h k)
 
-  second-stop : {r s : Judged} (e : LoadError) → r ≡ Passed → r ≡ judgedOf a → s ≡ Refused e → s ≡ judgedOf b → Refused e ≡ judgedOf (a ++ b ++ c)
+  second-stop : {r s : Judged} (e : LoadError) → r ≡ Passed → r ≡ judgedOf a → s ≡ Refused e → s ≡ judgedOf b →
+      Refused e ≡ judgedOf (a ++ b ++ c)
   second-stop e h k i j = judged-stop (a ++ b) c e refl (sym i ∙ judged-then a b h k j)
 
   third-last : {r s x : Judged} → r ≡ Passed → r ≡ judgedOf a → s ≡ Passed → s ≡ judgedOf b → x ≡ judgedOf c → x ≡ judgedOf (a ++ b ++ c)
@@ -73,15 +74,18 @@ pub ruleset front-order = (types-stop, parents-stop, consts-last, kept-same)
 -- ── rules 5 and 6 ──
 
 module _ (hosts : List HostFn) (m : Module) where
-  pub imports-stop : {r : Judged} (e : LoadError) → r ≡ Refused e → r ≡ judgedOf (importsFaults hosts m) → Refused e ≡ judgedOf (recordFaults hosts m)
+  pub imports-stop : {r : Judged} (e : LoadError) → r ≡ Refused e → r ≡ judgedOf (importsFaults hosts m) →
+      Refused e ≡ judgedOf (recordFaults hosts m)
   unfolding recordFaults
   imports-stop = first-stop (importsFaults hosts m) (globalsFaults m) (funcsFaults m)
 
-  pub globals-stop : {r s : Judged} (e : LoadError) → r ≡ Passed → r ≡ judgedOf (importsFaults hosts m) → s ≡ Refused e → s ≡ judgedOf (globalsFaults m) → Refused e ≡ judgedOf (recordFaults hosts m)
+  pub globals-stop : {r s : Judged} (e : LoadError) → r ≡ Passed → r ≡ judgedOf (importsFaults hosts m) → s ≡ Refused e →
+      s ≡ judgedOf (globalsFaults m) → Refused e ≡ judgedOf (recordFaults hosts m)
   unfolding recordFaults
   globals-stop = second-stop (importsFaults hosts m) (globalsFaults m) (funcsFaults m)
 
-  pub funcs-last : {r s x : Judged} → r ≡ Passed → r ≡ judgedOf (importsFaults hosts m) → s ≡ Passed → s ≡ judgedOf (globalsFaults m) → x ≡ judgedOf (funcsFaults m) → x ≡ judgedOf (recordFaults hosts m)
+  pub funcs-last : {r s x : Judged} → r ≡ Passed → r ≡ judgedOf (importsFaults hosts m) → s ≡ Passed → s ≡ judgedOf (globalsFaults m) →
+      x ≡ judgedOf (funcsFaults m) → x ≡ judgedOf (recordFaults hosts m)
   unfolding recordFaults
   funcs-last = third-last (importsFaults hosts m) (globalsFaults m) (funcsFaults m)
 
@@ -89,7 +93,8 @@ pub kept-equal : (o : Opened) (w v u : List ℕ) → Kept o w v → u ≡ v → 
 kept-equal o w v u k e = subst (Kept o w) (sym e) k
 
 -- functions' records leave work as it was
-pub linked-equal : (hosts : List HostFn) (ws w v : List ℕ) (o : Opened) {r s : Judged} → r ≡ Passed → LinkedIf r hosts ws w o → v ≡ w → LinkedIf s hosts ws v o
+pub linked-equal : (hosts : List HostFn) (ws w v : List ℕ) (o : Opened) {r s : Judged} → r ≡ Passed → LinkedIf r hosts ws w o → v ≡ w →
+    LinkedIf s hosts ws v o
 linked-equal hosts ws w v o {r} {s} e l q = record { entries = λ _. subst (λ (u : List ℕ). HostEntries hosts ws u o (length (moduleIn ws .imports))) (sym q) (l .entries e) }
 
 pub ruleset record-order = (imports-stop, globals-stop, funcs-last, kept-equal, linked-equal, linked-refused)
@@ -101,15 +106,17 @@ module _ (m : Module) where
   unfolding endFaults
   hooks-stop = first-stop (hooksFaults m) (startFaults m) (exportsFaults m)
 
-  pub start-stop : {r s : Judged} (e : LoadError) → r ≡ Passed → r ≡ judgedOf (hooksFaults m) → s ≡ Refused e → s ≡ judgedOf (startFaults m) → Refused e ≡ judgedOf (endFaults m)
+  pub start-stop : {r s : Judged} (e : LoadError) → r ≡ Passed → r ≡ judgedOf (hooksFaults m) → s ≡ Refused e →
+      s ≡ judgedOf (startFaults m) → Refused e ≡ judgedOf (endFaults m)
   unfolding endFaults
   start-stop = second-stop (hooksFaults m) (startFaults m) (exportsFaults m)
 
-  pub exports-last : {r s x : Judged} → r ≡ Passed → r ≡ judgedOf (hooksFaults m) → s ≡ Passed → s ≡ judgedOf (startFaults m) → x ≡ judgedOf (exportsFaults m) → x ≡ judgedOf (endFaults m)
+  pub exports-last : {r s x : Judged} → r ≡ Passed → r ≡ judgedOf (hooksFaults m) → s ≡ Passed → s ≡ judgedOf (startFaults m) →
+      x ≡ judgedOf (exportsFaults m) → x ≡ judgedOf (endFaults m)
   unfolding endFaults
   exports-last = third-last (hooksFaults m) (startFaults m) (exportsFaults m)
 
-pub ruleset end-order = (hooks-stop, start-stop, exports-last)
+pub ruleset end-order = (hooks-stop, start-stop, exports-last, above-refl)
 
 -- ── rules 7 and 8 ──
 
@@ -142,18 +149,17 @@ module _ (ws w : List ℕ) (o : Opened) (x : Ready ws w o) where
     unfolding funcAt
     counted-captured = record {
       captures = λ f d h.
-          c f (omega (arith, count-funcs ws o (x .opens))) ∙ ap (λ (g : Func). length (g .captures)) (getD-other (moduleIn ws .funcs) f noFunc d h);
+          c f (omega (arith, count-funcs ws o (x .opens)))
+          ∙ ap (λ (g : Func). length (g .captures)) (getD-other (moduleIn ws .funcs) f noFunc d h);
     }
 
     -- code writes above only
     module _ (u : List ℕ) (b : Above o v u) where
       pub swept-ready : Ready ws u o
-      unfolding Above
-      swept-ready = ready-below ws v o counted-ready u (record { len = b .len; same = λ k h. b .same k (omega arith) })
+      swept-ready = ready-above o ws v u counted-ready b
 
       pub swept-captured : Captured ws u o
-      unfolding Above
-      swept-captured = record { captures = λ f d h. b .same (4 * o .layout .words + f) (omega (arith, funcs-inside ws w o x)) ∙ counted-captured .captures f d h }
+      swept-captured = captured-above o ws v u counted-ready b counted-captured
 
       pub swept-links : LinksKept o w u
       unfolding Above LinksKept
@@ -164,7 +170,21 @@ module _ (ws w : List ℕ) (o : Opened) (x : Ready ws w o) where
           a
           b
 
-pub ruleset body-order = (codes-stop, ends-last, countable, counted-ready, counted-captured, swept-ready, swept-captured, swept-links)
+    -- and so do the marks of names
+    pub ended-links : (u t : List ℕ) → Above o v u → Above o u t → LinksKept o w t
+    ended-links u t b d = swept-links t (above-then o v u t b d)
+
+pub ruleset body-order = (
+  codes-stop,
+  ends-last,
+  countable,
+  counted-ready,
+  counted-captured,
+  swept-ready,
+  swept-captured,
+  swept-links,
+  ended-links,
+)
 
 -- ── all rules ──
 
@@ -177,10 +197,12 @@ module _ (hosts : List HostFn) (m : Module) where
 
   pub records-stop : {r s : Judged} (e : LoadError) → r ≡ Passed → r ≡ judgedOf (frontFaults m) → s ≡ Refused e →
       s ≡ judgedOf (recordFaults hosts m) → Refused e ≡ judgedOf (faultsOf hosts m)
-  records-stop e h k i j = judged-then (frontFaults m) later h k (judged-stop (recordFaults hosts m) (bodyFaults m) e i j) ∙ sym (in-groups hosts m)
+  records-stop e h k i j = judged-then (frontFaults m) later h k (judged-stop (recordFaults hosts m) (bodyFaults m) e i j)
+      ∙ sym (in-groups hosts m)
 
   pub bodies-last : {r s x : Judged} → r ≡ Passed → r ≡ judgedOf (frontFaults m) → s ≡ Passed → s ≡ judgedOf (recordFaults hosts m) →
       x ≡ judgedOf (bodyFaults m) → x ≡ judgedOf (faultsOf hosts m)
-  bodies-last h k i j l = judged-then (frontFaults m) later h k (judged-then (recordFaults hosts m) (bodyFaults m) i j l) ∙ sym (in-groups hosts m)
+  bodies-last h k i j l = judged-then (frontFaults m) later h k (judged-then (recordFaults hosts m) (bodyFaults m) i j l)
+      ∙ sym (in-groups hosts m)
 
 pub ruleset all-order = (front-stop, records-stop, bodies-last, front-types, linked-refused, links-ready, links-linked)

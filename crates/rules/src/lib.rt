@@ -6,7 +6,7 @@ ghost use Rattle.blocks.specs.Frame.{firstWords};
 ghost use Rattle.error.specs.Verdict.{judgedOf};
 ghost use Rattle.host.specs.Listed.{hostsIn};
 ghost use Rattle.open_hosts.specs.Sorted.{SortedHosts};
-ghost use Rattle.open_sheet.specs.Ready.{Ready, Captured, Kept, sheetWords, moduleOf};
+ghost use Rattle.open_sheet.specs.Ready.{Ready, Captured, Kept, Above, sheetWords, moduleOf};
 ghost use Rattle.types.specs.Types.{typesFaults};
 ghost use Rattle.sheet.specs.Editions.{mostOf};
 ghost use Rattle.parents.specs.Parents.{parentsFaults};
@@ -23,9 +23,9 @@ use rule5_globals::check_globals;
 use rule5_imports::check_imports;
 use rule6_funcs::check_funcs;
 use rule7_code::check_codes;
-use rule8_ends::check_exports;
-use rule8_ends::check_start;
+use rule8_exports::check_exports;
 use rule8_hooks::check_hooks;
+use rule8_start::check_start;
 use sheet::most_on_chain;
 
 // Parents, with at most as many on a chain as the edition allows.
@@ -90,10 +90,11 @@ fn check_records(
 }
 
 // Every hook, start, exports.
-fn check_ends(sheet: &[u8], work: &[u32], o: Opened) -> Judged
+fn check_ends(sheet: &[u8], work: &mut [u32], o: Opened) -> Judged
     requires { ⌜ Ready (sheetWords (now sheet) o) (now work) o ⌝ }
     requires { ⌜ Captured (sheetWords (now sheet) o) (now work) o ⌝ }
     ensures { λ r. ⌜ r ≡ judgedOf (endFaults (moduleOf (now (sheet .entry)) o)) ⌝ }
+    ensures { λ r. ⌜ Above o (now (work .entry)) (now (work .exit)) ⌝ }
 {
     match check_hooks(sheet, work, o) {
         Judged::Passed => {}
@@ -107,7 +108,7 @@ fn check_ends(sheet: &[u8], work: &[u32], o: Opened) -> Judged
             return Judged::Refused(e);
         }
     }
-    check_exports(sheet, o)
+    check_exports(sheet, work, o)
 }
 
 // Every function's code, then what comes after it.

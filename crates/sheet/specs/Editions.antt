@@ -1,6 +1,6 @@
 -- What the edition of a sheet decides: which are read, and what a rule asks of it.
 use Prim.Native.Nat.{ℕ}
-use mathlib.Core.Bool.{cond}
+use mathlib.Core.Bool.{Bool, cond}
 use lib.Dec.{eqb}
 use Rattle.sheet.specs.Module.{Module}
 
@@ -15,3 +15,7 @@ mostOnChain edition = cond (eqb edition 2) 64 256
 -- of a module
 abbrev pub mostOf : Module → ℕ
 mostOf m = mostOnChain (m .edition)
+
+-- the names of exports are read in edition 2, and left unread in edition 1
+unfoldable pub readsExportNames : ℕ → Bool
+readsExportNames edition = eqb edition 2

@@ -108,7 +108,7 @@ impl<'l, L: Loader> Checker<'l, L> {
         let (others, also) = self.call(&cases[1])?;
         self.tally.other_kind_pairs += u64::from(numbers[0] != others[0]);
         match (accepted, also) {
-            (Some(first), Some(_)) => self.tally.accept_pair(first.sheet.edition),
+            (Some(first), Some(_)) => self.tally.accept_pair(&first.sheet),
             (None, None) => return Ok(()),
             _ => return Err(format!("answered {numbers:?} and, renumbered, {others:?}")),
         }

@@ -3,7 +3,7 @@
 use std::fmt;
 
 use compare::Coverage;
-use sheets::{Edition, BLOCK};
+use sheets::{Edition, Sheet, BLOCK};
 
 /// Counts of a run.
 #[derive(Clone, Debug, Default)]
@@ -18,8 +18,9 @@ pub struct Tally {
     pub blocks: Option<(usize, usize)>,
     pub largest_table: usize,
     pub pairs: u64,
-    /// By edition.
+    /// By edition, and those of the second with several exports.
     pub accepted_pairs: [u64; 2],
+    pub exporting_pairs: u64,
     pub other_kind_pairs: u64,
     pub queries: u64,
     /// Sizes of families that were asked for, and those of them that are kind 25.
@@ -53,8 +54,10 @@ impl Tally {
         self.largest_table = self.largest_table.max(table_words);
     }
 
-    pub fn accept_pair(&mut self, edition: Edition) {
-        self.accepted_pairs[edition as usize - 1] += 1;
+    pub fn accept_pair(&mut self, sheet: &Sheet) {
+        self.accepted_pairs[sheet.edition as usize - 1] += 1;
+        let exporting = sheet.edition == Edition::Second && sheet.exports.len() > 1;
+        self.exporting_pairs += u64::from(exporting);
     }
 
     fn widen(&mut self, (few, many): (usize, usize)) {
@@ -104,6 +107,10 @@ impl Tally {
         let others = [
             (first_pairs, "an accepted pair of edition 1"),
             (second_pairs, "an accepted pair of edition 2"),
+            (
+                self.exporting_pairs,
+                "an accepted pair of edition 2 with several exports",
+            ),
             (self.counts - self.broken, "a count of kind 0"),
             (self.broken, "a count of kind 1"),
             (self.not_linked, "a size of kind 25"),
@@ -139,6 +146,7 @@ impl Tally {
         self.largest_table = self.largest_table.max(other.largest_table);
         self.pairs += other.pairs;
         add(&mut self.accepted_pairs, &other.accepted_pairs);
+        self.exporting_pairs += other.exporting_pairs;
         self.other_kind_pairs += other.other_kind_pairs;
         self.queries += other.queries;
         self.sizes += other.sizes;
@@ -217,8 +225,9 @@ impl fmt::Display for Tally {
         )?;
         writeln!(
             f,
-            "{} renumbered pairs agree, {first} of edition 1 and {second} of edition 2 accepted, {} refused by two kinds",
-            self.pairs, self.other_kind_pairs
+            "{} renumbered pairs agree, {first} of edition 1 and {second} of edition 2 accepted, {} of these with several exports; \
+             {} refused by two kinds",
+            self.pairs, self.exporting_pairs, self.other_kind_pairs
         )?;
         writeln!(f, "{} family queries agree", self.queries)?;
         self.fmt_families(f)?;

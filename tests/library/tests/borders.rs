@@ -1,12 +1,12 @@
-//! Borders at 65,536 fields and registers, of 256 and of 64 types on a chain, of 24, and of what is a linked table: the library is
-//! held to the reference, or in edition 2 to the format, just below, at and past each.
+//! Borders at 65,536 fields, registers and exports, of 256 and of 64 types on a chain, of export names, of 24, and of what is a linked
+//! table: the library is held to the reference, or in edition 2 to the format, just below, at and past each.
 
 use compare::{length_in, nearest_in, query, size_in};
 use generator::{Case, Rng};
-use sheets::build::{aw, func, function, ret_void, strings, structure, user};
+use sheets::build::{aw, export, func, function, ret_void, strings, structure, user};
 use sheets::{
-    encode_hosts, encode_sheet, needed, op, with_edition, Edition, Sheet, TypeEntry, ValueType,
-    DYN, STR,
+    encode_hosts, encode_sheet, needed, op, with_edition, Edition, ExportKind, Sheet, TypeEntry,
+    ValueType, DYN, STR,
 };
 use versus::{Checker, Library, Loader};
 
@@ -166,6 +166,68 @@ fn sheets_have_two_editions_and_host_lists_one() {
         let mut list = case(&Sheet::default());
         list.hosts = with_edition(&list.hosts, word);
         assert_eq!([other, list].map(|case| agreed(&case)[0]), kinds, "{word}");
+    }
+}
+
+/// What is agreed on where a type is exported under each of these names; edition 1 reads none.
+fn exported(texts: &[&str], names: &[u32]) -> [u32; 3] {
+    let exports = names.iter().map(|&name| export(ExportKind::Type, name, 0));
+    let sheet = Sheet {
+        strings: strings(texts),
+        types: vec![TypeEntry::Coroutine],
+        exports: exports.collect(),
+        ..Sheet::default()
+    };
+    let mut case = case(&sheet);
+    assert_eq!(agreed(&case)[0], 0);
+    case.sheet = with_edition(&case.sheet, Edition::Second.word());
+    agreed(&case)
+}
+
+#[test]
+fn an_export_is_named_by_a_string() {
+    for count in [1, 2, 126, 127, 128] {
+        let texts: Vec<String> = (0..count).map(|k| k.to_string()).collect();
+        let texts: Vec<&str> = texts.iter().map(String::as_str).collect();
+        assert_eq!(exported(&texts, &[0])[0], 0);
+        assert_eq!(exported(&texts, &[count - 1])[0], 0);
+        for name in [count, count + 1, 1 << 31, u32::MAX] {
+            assert_eq!(exported(&texts, &[0, name]), [27, 0, name]);
+        }
+    }
+    assert_eq!(exported(&[], &[0]), [27, 0, 0]);
+}
+
+#[test]
+fn export_names_are_told_apart_by_their_bytes() {
+    let long = |end: &str| "x".repeat(2_000) + end;
+    let [y, z, same] = ["y", "z", "y"].map(long);
+    for [a, b] in [["", "\0"], ["a", "a\0"], ["abcd", "abcde"], [&y, &z]] {
+        assert_eq!(exported(&[a, b], &[0, 1])[0], 0);
+        assert_eq!(exported(&[a, b], &[1, 0])[0], 0);
+        assert_eq!(exported(&[a, b, a], &[0, 1, 2]), [28, 0, 2]);
+    }
+    assert_eq!(exported(&[&y, &same], &[0, 1]), [28, 0, 1]);
+    assert_eq!(exported(&["", ""], &[1, 0]), [28, 0, 1]);
+    assert_eq!(exported(&["a"], &[0, 0, 0]), [28, 0, 1]);
+}
+
+#[test]
+fn repeats_are_found_however_far_apart() {
+    for count in BORDER {
+        let texts: Vec<String> = (0..count).map(|k| format!("{k:x}")).collect();
+        let mut texts: Vec<&str> = texts.iter().map(String::as_str).collect();
+        let own: Vec<u32> = (0..count as u32).rev().collect();
+        let after = |name| [&own[..], &[name]].concat();
+        assert_eq!(exported(&texts, &own)[0], 0);
+        let place = count as u32;
+        for name in [0, own[0]] {
+            assert_eq!(exported(&texts, &after(name)), [28, 0, place]);
+        }
+        assert_eq!(exported(&texts, &after(place)), [27, 0, place]);
+        // The first name's bytes once more.
+        texts.push(texts[count - 1]);
+        assert_eq!(exported(&texts, &after(place)), [28, 0, place]);
     }
 }
 

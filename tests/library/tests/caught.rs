@@ -1,5 +1,9 @@
 //! Wrong loaders are caught: each of these differs from the library in one number or word.
 
+mod export_names;
+
+use std::ops::RangeBounds;
+
 use compare::{chain_lengths, read_cases, write_cases};
 use sheets::{decode_sheet, encode_sheet, read_blocks, with_edition, Edition, TypeEntry};
 use versus::{run, Difference, Library, Loader, Plan};
@@ -12,7 +16,7 @@ const PLAN: Plan = Plan {
     host_blocks: 64,
 };
 
-/// Cases enough that each edition has chains just at its limit.
+/// Cases enough that each edition has chains just at its limit, and names of exports with every fault.
 const LONG_PLAN: Plan = Plan {
     cases: 5_000,
     ..PLAN
@@ -180,13 +184,17 @@ fn the_library_is_not_caught() {
 
 #[test]
 fn a_number_of_the_answer() {
-    let alters: [Alter; 6] = [
+    let alters: [Alter; 9] = [
         |n, _, _| n[0] = if n[0] == 16 { 17 } else { n[0] },
         |n, _, _| n[1] += u32::from(n[0] == 3),
         |n, _, _| n[2] ^= u32::from(n[0] == 0),
         |n, _, _| n[3] ^= u32::from(n[0] == 8),
         |n, _, _| n[4] = n[4].saturating_sub(1),
         |n, _, _| n[5] = n[5].saturating_sub(1),
+        // The name that is out of range, the place of a repeat, a function where there is none.
+        |n, _, _| n[2] ^= u32::from(n[0] == 27),
+        |n, _, _| n[2] += u32::from(n[0] == 28),
+        |n, _, _| n[4] += u32::from(n[0] >= 27),
     ];
     for alter in alters {
         assert_says(&caught(alter), "answered");
@@ -694,13 +702,14 @@ fn relabel(bytes: &mut Vec<u8>, from: u32, to: u32) {
     }
 }
 
-/// Edition 2 read as edition 1 where no more structs than these are on a chain.
-fn second_held_to(sheet: &mut Vec<u8>, most: u32) {
+/// The same, only where the longest chain has so many types, as far as edition 1 follows it.
+fn relabel_chains(sheet: &mut Vec<u8>, from: u32, to: u32, types: impl RangeBounds<u32>) {
     let mut first = sheet.clone();
     relabel(&mut first, 2, 1);
     let lengths = decode_sheet(&first).map(|(plain, _)| chain_lengths(&plain));
-    if lengths.is_some_and(|all| all.iter().all(|&length| length <= most)) {
-        *sheet = first;
+    let longest = lengths.and_then(|all| all.into_iter().max());
+    if longest.is_some_and(|longest| types.contains(&longest)) {
+        relabel(sheet, from, to);
     }
 }
 
@@ -718,28 +727,44 @@ fn second_held_to_63(sheet: &mut Vec<u8>) {
     }
 }
 
+/// Each of these is caught, and the first difference says so.
+fn assert_caught_given(alters: &[(AlterGiven, &str)]) {
+    for &(given, part) in alters {
+        let wrong = Wrong { given, ..RIGHT };
+        let found = run(&wrong, &LONG_PLAN).expect_err(part);
+        assert_says(&found.what, part);
+    }
+}
+
 #[test]
 fn an_edition() {
-    let alters: [(AlterGiven, &str); 9] = [
+    assert_caught_given(&[
         // Limits of 65 and of 63 in edition 2; a last number met that does not count where it is no struct.
-        (|sheet, _| second_held_to(sheet, 65), "expected [17, 0, "),
+        (
+            |sheet, _| relabel_chains(sheet, 2, 1, 64..=65),
+            "expected [17, 0, ",
+        ),
         (|sheet, _| second_held_to_63(sheet), "answered [17, 0, "),
-        (|sheet, _| second_held_to(sheet, 64), "answered [16, 0, "),
+        (
+            |sheet, _| relabel_chains(sheet, 2, 1, 64..=64),
+            "answered [16, 0, ",
+        ),
         // One limit for both: 256, and 64.
-        (|sheet, _| relabel(sheet, 2, 1), "expected [17, 0, "),
-        (|sheet, _| relabel(sheet, 1, 2), "answered [17, 0, "),
+        (
+            |sheet, _| relabel_chains(sheet, 2, 1, 64..),
+            "expected [17, 0, ",
+        ),
+        (
+            |sheet, _| relabel_chains(sheet, 1, 2, 64..),
+            "answered [17, 0, ",
+        ),
         // Edition 2 not taken; 3 and 0 taken.
         (|sheet, _| relabel(sheet, 2, 3), "answered [1, 0, "),
         (|sheet, _| relabel(sheet, 3, 2), "expected [1, 0, "),
         (|sheet, _| relabel(sheet, 0, 1), "expected [1, 0, "),
         // A host list of edition 2 taken.
         (|_, hosts| relabel(hosts, 2, 1), "expected [23, 0, "),
-    ];
-    for (given, part) in alters {
-        let wrong = Wrong { given, ..RIGHT };
-        let found = run(&wrong, &LONG_PLAN).expect_err("a difference");
-        assert_says(&found.what, part);
-    }
+    ]);
 }
 
 #[test]

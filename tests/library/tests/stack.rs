@@ -2,8 +2,8 @@
 
 use std::thread;
 
-use sheets::build::{structure, user};
-use sheets::{encode_hosts, encode_sheet, refit, with_edition, Sheet};
+use sheets::build::{export, structure, user};
+use sheets::{encode_hosts, encode_sheet, refit, with_edition, Edition, ExportKind, Sheet};
 use versus::{Library, Loader};
 
 /// What the bindings say of short host lists, and something for the thread itself.
@@ -96,6 +96,23 @@ fn nearest_families_fit_the_small_stack() {
     let table_of_fan = table(&forest(100_000, |t| t.checked_sub(1).map(|_| 0)));
     let nearest = move || [0, 1, 99_999].map(|u| Library.nearest(&table_of_fan, 99_999, u));
     assert_eq!(on(STACK, nearest), [[0, 0], [0, 0], [0, 99_999]]);
+}
+
+#[test]
+fn many_export_names_fit_the_small_stack() {
+    let text = |k: u32| format!("{k:x}").into_bytes();
+    let own = |name| export(ExportKind::Type, name, 0);
+    let mut sheet = Sheet {
+        edition: Edition::Second,
+        strings: (0..80_000).map(text).collect(),
+        types: vec![structure(None, &[])],
+        exports: (0..80_000).map(own).collect(),
+        ..Sheet::default()
+    };
+    let kind = |sheet: &Sheet| kind_on(STACK, encode_sheet(sheet).to_bytes(), list(0));
+    assert_eq!(kind(&sheet), 0);
+    sheet.exports.push(own(0));
+    assert_eq!(kind(&sheet), 28);
 }
 
 #[test]

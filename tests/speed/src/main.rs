@@ -9,6 +9,7 @@ use std::time::Instant;
 
 use paqlluri::{count_structs, load, table_words, Linked, TypeId};
 use shapes::{bytes, Shape, SHAPES};
+use sheets::{with_edition, Edition};
 
 const USAGE: &str = "usage:
   speed                              every shape, five sizes each
@@ -18,12 +19,14 @@ const USAGE: &str = "usage:
   speed lengths                      the length of a chain
   speed nearest                      the nearest family of two types
   speed report                       what the report asks of a sheet
+  speed names                        export names, beside edition 1, which does not read them
   speed shapes                       their names and largest sizes
   speed ours|rust|none SHAPE N       one call, for a count of instructions";
 
-/// A sheet, its host list, and what a call is lent.
+/// A sheet, the same in edition 1 for program.rs, its host list, and what a call is lent.
 struct Lent {
     sheet: Vec<u8>,
+    first: Vec<u8>,
     hosts: Vec<u8>,
     table: Vec<u32>,
     work: Vec<u32>,
@@ -34,6 +37,7 @@ impl Lent {
         let (sheet, hosts) = bytes(shape, n);
         let words = table_words(sheet.len());
         Lent {
+            first: with_edition(&sheet, Edition::First.word()),
             sheet,
             hosts,
             table: vec![0; words],
@@ -64,7 +68,7 @@ impl Lent {
     /// The reference: both files decoded, the registry of hosts, `Program::load`.
     fn rust(&self) -> bvm_lang::Program {
         let words = self.table.len() as u32;
-        let (sheet, hosts) = (black_box(&self.sheet), black_box(&self.hosts));
+        let (sheet, hosts) = (black_box(&self.first), black_box(&self.hosts));
         let loaded = compare::load(sheet, hosts, words, words);
         let program = loaded.expect("an accepted sheet").into_program();
         program.expect("a sheet of edition 1")
@@ -149,6 +153,27 @@ fn report(shape: &Shape) {
     }
 }
 
+/// Each size twice the one before: our time with names read, and beside it with names unread, both sides.
+fn names(shape: &Shape) {
+    println!(
+        "| exports | blocks | ours µs | growth | ours unread µs | ratio | program.rs unread µs | ratio |"
+    );
+    println!("|---|---|---|---|---|---|---|---|");
+    let mut before = None;
+    for n in [4, 2, 1].map(|d| shape.most / d) {
+        let mut lent = Lent::new(shape, n);
+        let (ours, _) = in_turn(&mut lent);
+        let blocks = lent.sheet.len() / sheets::BLOCK;
+        lent.sheet.clone_from(&lent.first);
+        let (unread, rust) = in_turn(&mut lent);
+        let growth = before.map_or(String::new(), |before| format!("{:.2}", ours / before));
+        let (ratio, more) = (rust / ours, ours / unread);
+        let [mine, first, theirs] = [ours, unread, rust].map(|t| t / 1e3);
+        println!("| {n} | {blocks} | {mine:.1} | {growth} | {first:.1} | {more:.2} | {theirs:.1} | {ratio:.2} |");
+        before = Some(ours);
+    }
+}
+
 fn shape(name: &str) -> Option<&'static Shape> {
     SHAPES.iter().find(|s| s.name == name)
 }
@@ -178,6 +203,7 @@ fn run(args: &[String]) -> Option<()> {
             report(shape("ordinary")?);
             report(shape("chains")?);
         }
+        ["names"] => names(shape("exports")?),
         ["shapes"] => SHAPES
             .iter()
             .for_each(|s| println!("  {} {}", s.name, s.most)),

@@ -1,10 +1,10 @@
 //! Sheets of one shape and of any size, and their host lists. Every one of them is accepted.
 
 use generator::Rng;
-use sheets::build::{func, function, import, ret_void, structure, user};
+use sheets::build::{export, func, function, import, ret_void, structure, user};
 use sheets::{
-    build, encode_hosts, encode_sheet, op, renumber, Constant, Function, Global, Handler,
-    HostEntry, Param, ShapeEntry, Sheet, TypeEntry, ValueType, DYN, STR,
+    build, encode_hosts, encode_sheet, op, renumber, Constant, Edition, ExportKind, Function,
+    Global, Handler, HostEntry, Param, ShapeEntry, Sheet, TypeEntry, ValueType, DYN, STR,
 };
 
 /// What a shape is called, a size that fills most of a sheet, and how it is made.
@@ -99,6 +99,11 @@ pub const SHAPES: &[Shape] = &[
         name: "globals",
         most: 250_000,
         make: globals,
+    },
+    Shape {
+        name: "exports",
+        most: 100_000,
+        make: exports,
     },
 ];
 
@@ -278,17 +283,21 @@ fn handlers(n: usize) -> (Sheet, Vec<HostEntry>) {
     )
 }
 
-/// n functions of one module, with names of four letters in no order.
-fn host_list(n: usize) -> Vec<HostEntry> {
+/// n names of four letters, in no order.
+fn names(n: usize) -> impl Iterator<Item = String> {
     let letter = |x: u32| char::from(b'0' + (x % 64) as u8);
-    let name = |k: u32| -> String {
+    (0..n as u32).map(move |k| {
         let x = k.wrapping_mul(10_368_889) % (1 << 24);
         [x, x >> 6, x >> 12, x >> 18]
             .into_iter()
             .map(letter)
             .collect()
-    };
-    (0..n as u32).map(|k| user("", &name(k))).collect()
+    })
+}
+
+/// n functions of one module.
+fn host_list(n: usize) -> Vec<HostEntry> {
+    names(n).map(|name| user("", &name)).collect()
 }
 
 /// n imports over a host list of n functions, each resolved.
@@ -416,6 +425,21 @@ fn globals(n: usize) -> (Sheet, Vec<HostEntry>) {
     (
         Sheet {
             globals,
+            ..Sheet::default()
+        },
+        Vec::new(),
+    )
+}
+
+/// n exports of one type, each under a string of its own, in an edition that reads names.
+fn exports(n: usize) -> (Sheet, Vec<HostEntry>) {
+    let own = |name| export(ExportKind::Type, name, 0);
+    (
+        Sheet {
+            edition: Edition::Second,
+            strings: names(n).map(String::into_bytes).collect(),
+            types: vec![TypeEntry::Coroutine],
+            exports: (0..n as u32).rev().map(own).collect(),
             ..Sheet::default()
         },
         Vec::new(),

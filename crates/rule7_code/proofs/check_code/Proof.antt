@@ -1,7 +1,8 @@
 -- `rule7_code::check_code` meets its contract.
 use borrow.Author.Needs.{needs}
 use native.Mathlib.Omega.{arith}
-use Rattle.rule7_code.proofs.CodeSteps.{code-stop, code-last, parts-handlers, above-refl, above-length, func-few}
+use Rattle.rule7_code.proofs.CodeSteps.{code-stop, code-last, parts-handlers, func-few}
+use Rattle.open_sheet.specs.ReadyLaws.{above-refl, above-length}
 use Rattle.rule7_code.proofs.check_code.Statement.{statement}
 use Rattle.rule7_code.proofs.check_code.Tie as tie
 

@@ -3,7 +3,8 @@ use borrow.Author.Needs.{needs}
 use native.Mathlib.Omega.{arith}
 use Prim.Native.Nat.{_-_}
 use Rattle.blocks.specs.Frame.{firstWords}
-use Rattle.rule7_code.proofs.CodeSteps.{Coded, coding, coded-length, coded-ready, coded-captured, above-length}
+use Rattle.rule7_code.proofs.CodeSteps.{Coded, coding, coded-length, coded-ready, coded-captured}
+use Rattle.open_sheet.specs.ReadyLaws.{above-length}
 use Rattle.rule7_code.proofs.check_codes.Statement.{statement}
 use Rattle.rule7_code.proofs.check_codes.Tie as tie
 

@@ -7,8 +7,8 @@ use sheets::{decode_sheet, Sheet};
 use crate::editions::Editions;
 use crate::lengths::longest_chain;
 
-/// Kinds that a sheet, a host list or lengths can meet: 0 to 24 (25 is the query's, 26 cannot occur).
-const KINDS: usize = 25;
+/// Kinds that a sheet, a host list or lengths can meet: all but 25, which is the query's, and 26, which cannot occur.
+const KINDS: [std::ops::Range<usize>; 2] = [0..25, 27..29];
 
 /// A run of at least so many cases fails if it misses a kind or a word.
 pub const FULL_RUN: u64 = 5000;
@@ -19,7 +19,7 @@ const CHAINS: [&str; 4] = ["0", "1", "2-253", "254-256"];
 /// Hits by kind, by word of kinds 3 and 11, of accepted sheets by operation code and by the longest chain, and by edition.
 #[derive(Clone, Debug)]
 pub struct Coverage {
-    kinds: [u64; KINDS],
+    kinds: [u64; KINDS[1].end],
     out_of_range: [u64; 14],
     wrong_type_kind: [u64; 4],
     codes: [u64; 35],
@@ -30,7 +30,7 @@ pub struct Coverage {
 impl Default for Coverage {
     fn default() -> Coverage {
         Coverage {
-            kinds: [0; KINDS],
+            kinds: [0; KINDS[1].end],
             out_of_range: [0; 14],
             wrong_type_kind: [0; 4],
             codes: [0; 35],
@@ -42,8 +42,9 @@ impl Default for Coverage {
 
 impl Coverage {
     /// Counts the six numbers of a sheet under a host list, and its codes and longest chain if it is accepted.
-    pub fn add(&mut self, sheet: &[u8], hosts: &[u8], [kind, word, ..]: [u32; 6]) {
-        self.editions.add(sheet, hosts, kind);
+    pub fn add(&mut self, sheet: &[u8], hosts: &[u8], numbers: [u32; 6]) {
+        self.editions.add(sheet, hosts, numbers);
+        let [kind, word, ..] = numbers;
         self.kinds[kind as usize] += 1;
         match kind {
             3 => self.out_of_range[word as usize - 1] += 1,
@@ -97,7 +98,9 @@ impl Coverage {
                 missed.push(format!("{name} {}", first + i));
             }
         };
-        look("kind", 0, &self.kinds);
+        for kinds in KINDS {
+            look("kind", kinds.start, &self.kinds[kinds]);
+        }
         look("kind 3 word", 1, &self.out_of_range);
         look("kind 11 word", 1, &self.wrong_type_kind);
         look("accepted code", 0, &self.codes);
@@ -111,18 +114,16 @@ impl Coverage {
 
 impl fmt::Display for Coverage {
     fn fmt(&self, f: &mut fmt::Formatter<'_>) -> fmt::Result {
-        let mut row = |name: &str, first: usize, hits: &[u64]| {
-            let cells: Vec<_> = hits
-                .iter()
-                .enumerate()
-                .map(|(i, h)| format!("{}:{h}", first + i))
-                .collect();
-            writeln!(f, "{name} {}", cells.join(" "))
+        let cells = |first: usize, hits: &[u64]| {
+            let numbered = hits.iter().zip(first..);
+            let cells: Vec<_> = numbered.map(|(h, i)| format!("{i}:{h}")).collect();
+            cells.join(" ")
         };
-        row("kind", 0, &self.kinds)?;
-        row("kind 3 word", 1, &self.out_of_range)?;
-        row("kind 11 word", 1, &self.wrong_type_kind)?;
-        row("accepted sheets with code", 0, &self.codes)?;
+        let kinds = KINDS.map(|kinds| cells(kinds.start, &self.kinds[kinds]));
+        writeln!(f, "kind {}", kinds.join(" "))?;
+        writeln!(f, "kind 3 word {}", cells(1, &self.out_of_range))?;
+        writeln!(f, "kind 11 word {}", cells(1, &self.wrong_type_kind))?;
+        writeln!(f, "accepted sheets with code {}", cells(0, &self.codes))?;
         let chains = CHAINS.iter().zip(self.chains);
         let cells: Vec<_> = chains.map(|(length, h)| format!("{length}:{h}")).collect();
         writeln!(f, "accepted sheets by longest chain {}", cells.join(" "))?;

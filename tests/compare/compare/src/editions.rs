@@ -1,32 +1,46 @@
 //! How many cases show what the editions differ in, and what they do not differ in.
 
+use std::collections::HashSet;
 use std::fmt;
 
-use sheets::{decode_hosts, decode_sheet, read_blocks, with_edition, Edition};
+use sheets::{decode_hosts, decode_sheet, read_blocks, with_edition, Edition, Sheet};
 
 use crate::lengths::longest_chain;
 use crate::load;
 
 /// What a case can show, that each edition is accepted first.
-const SHOWN: [&str; 9] = [
+const SHOWN: [&str; 18] = [
     "edition 1 accepted",
     "edition 2 accepted",
     "edition 1 accepted, longest chain 65 or 66",
     "edition 2 accepted, longest chain 64",
     "edition 2 refused with 17, accepted in edition 1, longest chain 65",
     "edition 2 refused with 17, in edition 1 with 16",
+    "edition 1 accepted, an export's name out of range",
+    "edition 1 accepted, two exports of one name",
+    "edition 2 accepted, an export named by the last string",
+    "edition 2 refused with 27, one past the last string",
+    "edition 2 refused with 27, accepted in edition 1",
+    "edition 2 refused with 27, in edition 1 with 3",
+    "edition 2 refused with 28, two strings of equal bytes",
+    "edition 2 refused with 28, accepted in edition 1",
+    "edition 2 refused with 28, in edition 1 with 3",
     "sheet of edition 0 refused, else intact",
     "sheet of edition 3 refused, else intact",
     "host list of edition 2 refused, else intact",
 ];
+
+/// How many of them an intact sheet can show by its chains, and by its export names.
+const CHAINS: usize = 6;
+const NAMES: usize = 9;
 
 /// Hits of each.
 #[derive(Clone, Debug, Default)]
 pub(crate) struct Editions([u64; SHOWN.len()]);
 
 impl Editions {
-    pub fn add(&mut self, sheet: &[u8], hosts: &[u8], kind: u32) {
-        let hits = self.0.iter_mut().zip(shown(sheet, hosts, kind));
+    pub fn add(&mut self, sheet: &[u8], hosts: &[u8], numbers: [u32; 6]) {
+        let hits = self.0.iter_mut().zip(shown(sheet, hosts, numbers));
         hits.for_each(|(hits, shown)| *hits += u64::from(shown));
     }
 
@@ -50,41 +64,111 @@ impl fmt::Display for Editions {
     }
 }
 
-/// What the case with this kind of answer shows beside an accepted edition, if it shows anything.
-pub fn shown_border(sheet: &[u8], hosts: &[u8], kind: u32) -> Option<&'static str> {
-    let all = SHOWN.into_iter().zip(shown(sheet, hosts, kind));
+/// What the case with this answer shows beside an accepted edition, if it shows anything.
+pub fn shown_border(sheet: &[u8], hosts: &[u8], numbers: [u32; 6]) -> Option<&'static str> {
+    let all = SHOWN.into_iter().zip(shown(sheet, hosts, numbers));
     let mut borders = all.skip(Edition::ALL.len());
     borders.find(|&(_, shown)| shown).map(|(name, _)| name)
 }
 
-/// What the case with this kind of answer shows.
-fn shown(sheet: &[u8], hosts: &[u8], kind: u32) -> [bool; SHOWN.len()] {
-    let intact = decode_sheet(sheet).map(|(sheet, _)| sheet);
-    let edition = intact.as_ref().map(|sheet| sheet.edition);
-    let chain = intact
-        .filter(|_| kind == 0)
-        .map_or(0, |sheet| longest_chain(&sheet));
-    let accepted = |wanted| kind == 0 && edition == Some(wanted);
-    let too_long = kind == 17 && edition == Some(Edition::Second);
-    // What the first edition says of the same sheet: the kind and the longest chain.
-    let in_first = too_long.then(|| {
-        let first = with_edition(sheet, Edition::First.word());
-        let loaded = load(&first, hosts, u32::MAX, u32::MAX);
-        loaded.map_or_else(|numbers| (numbers[0], 0), |a| (0, longest_chain(&a.sheet)))
+/// What the case with this answer shows.
+fn shown(sheet: &[u8], hosts: &[u8], numbers: [u32; 6]) -> Vec<bool> {
+    let judged = Judged::new(sheet, hosts, numbers);
+    let (chains, names) = judged.map_or(([false; CHAINS], [false; NAMES]), |judged| {
+        (judged.chains(), judged.names())
     });
     let whole_sheet = |bytes: &[u8]| decode_sheet(bytes).is_some();
     let whole_list = |bytes: &[u8]| decode_hosts(bytes).is_some();
-    [
-        accepted(Edition::First),
-        accepted(Edition::Second),
-        accepted(Edition::First) && (65..=66).contains(&chain),
-        accepted(Edition::Second) && chain == 64,
-        in_first == Some((0, 65)),
-        in_first.is_some_and(|(kind, _)| kind == 16),
+    let kind = numbers[0];
+    let words = [
         kind == 1 && is_of_edition(sheet, 0, whole_sheet),
         kind == 1 && is_of_edition(sheet, 3, whole_sheet),
         kind == 23 && is_of_edition(hosts, 2, whole_list),
-    ]
+    ];
+    [&chains[..], &names, &words].concat()
+}
+
+/// An intact sheet and its answer.
+struct Judged {
+    sheet: Sheet,
+    numbers: [u32; 6],
+    /// The kind that the first edition answers, and the longest chain, where the second refuses by a rule of its own.
+    in_first: Option<(u32, u32)>,
+}
+
+impl Judged {
+    fn new(bytes: &[u8], hosts: &[u8], numbers: [u32; 6]) -> Option<Judged> {
+        let (sheet, _) = decode_sheet(bytes)?;
+        let own = sheet.edition == Edition::Second && matches!(numbers[0], 17 | 27 | 28);
+        let in_first = own.then(|| {
+            let first = with_edition(bytes, Edition::First.word());
+            let loaded = load(&first, hosts, u32::MAX, u32::MAX);
+            loaded.map_or_else(|numbers| (numbers[0], 0), |a| (0, longest_chain(&a.sheet)))
+        });
+        Some(Judged {
+            sheet,
+            numbers,
+            in_first,
+        })
+    }
+
+    fn is_accepted(&self, edition: Edition) -> bool {
+        self.numbers[0] == 0 && self.sheet.edition == edition
+    }
+
+    /// Whether the second edition refuses with the one kind where the first answers with the other.
+    fn differs(&self, second: u32, first: u32) -> bool {
+        let in_first = self.in_first.map(|(kind, _)| kind);
+        self.numbers[0] == second && in_first == Some(first)
+    }
+
+    fn chains(&self) -> [bool; CHAINS] {
+        let [first, second] = Edition::ALL.map(|edition| self.is_accepted(edition));
+        let chain = if first || second {
+            longest_chain(&self.sheet)
+        } else {
+            0
+        };
+        [
+            first,
+            second,
+            first && (65..=66).contains(&chain),
+            second && chain == 64,
+            self.differs(17, 0) && self.in_first == Some((0, 65)),
+            self.differs(17, 16),
+        ]
+    }
+
+    fn names(&self) -> [bool; NAMES] {
+        let [first, second] = Edition::ALL.map(|edition| self.is_accepted(edition));
+        let Sheet {
+            strings, exports, ..
+        } = &self.sheet;
+        let [kind, _, number, ..] = self.numbers;
+        let named = |e: &sheets::Export| strings.get(e.name as usize);
+        let mut met = HashSet::new();
+        let mut repeats = exports
+            .iter()
+            .filter_map(named)
+            .map(|text| !met.insert(text));
+        let is_last = |e: &sheets::Export| e.name as usize + 1 == strings.len();
+        let past_last = number as usize == strings.len();
+        let repeated_number = || {
+            let (before, from) = exports.split_at(number as usize);
+            before.iter().any(|e| e.name == from[0].name)
+        };
+        [
+            first && exports.iter().any(|e| named(e).is_none()),
+            first && repeats.any(|repeat| repeat),
+            second && exports.iter().any(is_last),
+            kind == 27 && past_last,
+            self.differs(27, 0),
+            self.differs(27, 3),
+            kind == 28 && !repeated_number(),
+            self.differs(28, 0),
+            self.differs(28, 3),
+        ]
+    }
 }
 
 /// Whether the bytes have this edition word, and would be whole with the first.
@@ -96,8 +180,9 @@ fn is_of_edition(bytes: &[u8], word: u32, whole: impl Fn(&[u8]) -> bool) -> bool
 #[cfg(test)]
 mod tests {
     use super::*;
-    use crate::forests::forest;
-    use sheets::{encode_hosts, encode_sheet, Sheet};
+    use crate::forests::{forest, sheet as of_types};
+    use sheets::build::{export, strings, structure};
+    use sheets::{encode_hosts, encode_sheet, ExportKind};
 
     /// So many structs, the lowest first, the topmost with this parent.
     fn chain(edition: Edition, structs: u32, top: Option<u32>) -> Vec<u8> {
@@ -109,9 +194,23 @@ mod tests {
         encode_sheet(&sheet).to_bytes()
     }
 
+    /// One type exported under these names of four strings, the first two equal; at last such an index.
+    fn exporting(edition: Edition, names: &[u32], last: u32) -> Vec<u8> {
+        let of_type = |&name| export(ExportKind::Type, name, 0);
+        let mut sheet = Sheet {
+            edition,
+            strings: strings(&["a", "a", "b", "c"]),
+            exports: names.iter().map(of_type).collect(),
+            ..of_types(vec![structure(None, &[])])
+        };
+        sheet.exports.push(export(ExportKind::Type, 2, last));
+        encode_sheet(&sheet).to_bytes()
+    }
+
     fn border(sheet: &[u8], hosts: &[u8]) -> Option<&'static str> {
-        let kind = load(sheet, hosts, u32::MAX, u32::MAX).map_or_else(|n| n[0], |_| 0);
-        shown_border(sheet, hosts, kind)
+        let loaded = load(sheet, hosts, u32::MAX, u32::MAX);
+        let numbers = loaded.map_or_else(|numbers| numbers, |_| [0; 6]);
+        shown_border(sheet, hosts, numbers)
     }
 
     #[test]
@@ -123,6 +222,15 @@ mod tests {
             chain(second, 64, None),
             chain(second, 65, None),
             chain(second, 64, Some(99)),
+            exporting(first, &[9], 0),
+            exporting(first, &[0, 1], 0),
+            exporting(second, &[3], 0),
+            exporting(second, &[4], 0),
+            exporting(second, &[5], 0),
+            exporting(second, &[5], 7),
+            exporting(second, &[0, 1], 0),
+            exporting(second, &[0, 0], 0),
+            exporting(second, &[0, 0], 7),
             with_edition(&chain(first, 1, None), 0),
             with_edition(&chain(first, 1, None), 3),
         ];
@@ -147,6 +255,10 @@ mod tests {
                 (1, Some(9)),
             ] {
                 assert_eq!(border(&chain(edition, structs, top), &hosts), None);
+            }
+            // Names that differ; and behind an index that is absent.
+            for (names, last) in [(&[][..], 0), (&[1], 0), (&[1], 7)] {
+                assert_eq!(border(&exporting(edition, names, last), &hosts), None);
             }
         }
         let sheet = chain(Edition::First, 1, None);

@@ -122,10 +122,10 @@ fn small_cases(seed: u64, count: u64, most_bytes: usize) -> Vec<StoredCase> {
         }
         let answer = answer(&c.sheet, &c.hosts, c.table_len, c.work_len);
         let [kind, word, ..] = answer.numbers;
-        let border = shown_border(&c.sheet, &c.hosts, kind);
-        // A third may be accepted; another kind, word or border gets one in 75, and more once all were met.
+        let border = shown_border(&c.sheet, &c.hosts, answer.numbers);
+        // A third may be accepted; another kind, word or border gets one in 100, and more once all were met.
         let plain = kind == 0 && border.is_none();
-        let share = if plain { count / 3 } else { count / 75 };
+        let share = if plain { count / 3 } else { count / 100 };
         let most = share.max(1) + index / 5_000;
         let taken = taken.entry((kind, word, border)).or_default();
         if *taken < most {

@@ -1,8 +1,8 @@
-//! The reference answers as docs/FORMAT.md says; the second edition is the first but for the chain limit.
+//! The reference answers as docs/FORMAT.md says; the second edition is the first but for the chain limit and export names.
 
 use compare::{answer, by_format, chain_lengths};
 use generator::{case, Case};
-use sheets::{decode_sheet, with_edition, Edition, BLOCK};
+use sheets::{decode_sheet, encode_sheet, with_edition, Edition, Export, Sheet, BLOCK};
 
 /// Cases of a seed that are not left out for their size, each with its number.
 fn cases(seed: u64, count: u64) -> impl Iterator<Item = (u64, Case)> {
@@ -36,14 +36,42 @@ fn the_reference_answers_as_the_format_says() {
     assert!(compared >= 10_000, "{compared} compared");
 }
 
-/// What the format says of the second edition is what the reference says of the first, but where a chain is too long for it.
-#[test]
-fn the_editions_differ_by_the_chain_limit_alone() {
-    let (mut same, mut accepted, mut longer) = (0, 0, 0);
-    for (index, c) in cases(15, 16_000) {
-        if edition(&c.sheet).is_none() {
-            continue;
+/// The first fault, where it is an export's name: held to each name before, and the reference finds none up to that export's index.
+fn name_fault(sheet: &Sheet, hosts: &[u8]) -> Option<[u32; 6]> {
+    let text = |e: &Export| sheet.strings.get(e.name as usize);
+    let is_accepted_up_to = |place: usize| {
+        let exports = sheet.exports[..=place].to_vec();
+        let sheet = Sheet {
+            edition: Edition::First,
+            exports,
+            ..sheet.clone()
+        };
+        let sheet = encode_sheet(&sheet).to_bytes();
+        answer(&sheet, hosts, u32::MAX, u32::MAX).table.is_some()
+    };
+    let fault = |(place, own): (usize, &Export)| {
+        let mut before = sheet.exports[..place].iter();
+        if text(own).is_none() {
+            Some((place, [27, 0, own.name, 0, 0, 0]))
+        } else if before.any(|e| text(e) == text(own)) {
+            Some((place, [28, 0, place as u32, 0, 0, 0]))
+        } else {
+            None
         }
+    };
+    let (place, numbers) = sheet.exports.iter().enumerate().find_map(fault)?;
+    is_accepted_up_to(place).then_some(numbers)
+}
+
+/// What the format says of the second edition is what the reference says of the first, but where a chain is too long for it or
+/// an export's name is no string or another's.
+#[test]
+fn the_editions_differ_by_the_chain_limit_and_by_export_names() {
+    let (mut same, mut accepted, mut longer, mut named) = (0, 0, 0, [0; 2]);
+    for (index, c) in cases(15, 16_000) {
+        let Some((plain, _)) = decode_sheet(&c.sheet) else {
+            continue;
+        };
         let sheets = Edition::ALL.map(|e| with_edition(&c.sheet, e.word()));
         let longest = longest_chain(&sheets[0]);
         let [first, second] = sheets.map(|s| answer(&s, &c.hosts, c.table_len, c.work_len));
@@ -51,15 +79,28 @@ fn the_editions_differ_by_the_chain_limit_alone() {
             same += 1;
             accepted += u32::from(first.table.is_some());
             assert!(first.table.is_none() || longest <= 64, "case {index}");
+            // Where slices are too short nobody looks.
+            let fault = name_fault(&plain, &c.hosts).filter(|_| first.numbers[0] != 24);
+            assert_eq!(fault, None, "case {index}");
             continue;
         }
-        // 64 structs and the number above the topmost, or more.
-        assert!(longest >= 64, "case {index}");
-        // Rules 1 and 2 and those before them are the same, so the first edition gets as far as the parents.
-        assert_eq!(second.numbers, [17, 0, 0, 0, 0, 0], "case {index}");
+        // Nothing before the rules differs.
         assert!(!matches!(first.numbers[0], 1 | 23 | 24), "case {index}");
-        longer += 1;
+        if second.numbers[0] == 17 {
+            // 64 structs and the number above the topmost, or more.
+            assert!(longest >= 64, "case {index}");
+            assert_eq!(second.numbers, [17, 0, 0, 0, 0, 0], "case {index}");
+            longer += 1;
+        } else {
+            let fault = name_fault(&plain, &c.hosts);
+            assert_eq!(fault, Some(second.numbers), "case {index}");
+            named[second.numbers[0] as usize - 27] += 1;
+        }
     }
     assert!(same >= 10_000 && accepted >= 3_000, "{same}, {accepted}");
     assert!(longer >= 100, "{longer} with chains over the limit");
+    assert!(
+        named.iter().all(|&n| n >= 300),
+        "{named:?} with names of 27 and of 28"
+    );
 }

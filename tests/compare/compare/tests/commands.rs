@@ -49,7 +49,11 @@ fn coverage_prints_every_kind() {
     let text = stdout(&["coverage", "--seed", "1", "--cases", "50"]);
     let lines: Vec<_> = text.lines().collect();
     assert_eq!(lines.len(), 6);
-    assert!(lines[0].starts_with("kind 0:") && lines[0].contains(" 24:"));
+    assert!(lines[0].starts_with("kind 0:"));
+    assert!([" 24:", " 27:", " 28:"]
+        .iter()
+        .all(|kind| lines[0].contains(kind)));
+    assert!([" 25:", " 26:"].iter().all(|kind| !lines[0].contains(kind)));
     assert!(lines[1].contains(" 14:"));
     assert!(
         lines[4].starts_with("accepted sheets by longest chain 0:")

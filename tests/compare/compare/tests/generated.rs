@@ -6,6 +6,7 @@ use sheets::{decode_hosts, decode_sheet, encode_hosts, encode_sheet};
 
 #[test]
 fn valid_modules_are_accepted_and_read_back() {
+    let mut several_exports = [0; 2];
     for index in 0..5000 {
         let mut rng = Rng::new(1, index);
         let scale = Scale::any(&mut rng);
@@ -14,6 +15,8 @@ fn valid_modules_are_accepted_and_read_back() {
         assert_eq!(answer.numbers[0], 0, "case {index}: {:?}", answer.numbers);
         let table = answer.table.expect("accepted");
         assert!(Linked::read(&table).is_some(), "case {index}");
+        several_exports[draft.sheet.edition as usize - 1] +=
+            u32::from(draft.sheet.exports.len() > 1);
         let words = encode_sheet(&draft.sheet);
         assert!(table.len() + 6 <= 5 * words.words.len(), "case {index}");
         let (sheet, n) = decode_sheet(&words.to_bytes()).expect("whole");
@@ -21,6 +24,9 @@ fn valid_modules_are_accepted_and_read_back() {
         let hosts = encode_hosts(&draft.hosts).to_bytes();
         assert_eq!(decode_hosts(&hosts).as_ref(), Some(&draft.hosts));
     }
+    // In the second edition too, where names are read.
+    let [first, second] = several_exports;
+    assert!(first >= 1_200 && second >= 600, "{first}, {second}");
 }
 
 #[test]

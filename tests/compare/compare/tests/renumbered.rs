@@ -37,11 +37,18 @@ fn compare_tables(pair: &Pair, a: &[u32], b: &[u32], index: u64) {
 fn pairs_agree_as_demand_3_says() {
     let (mut accepted, mut refused, mut other_kind) = (0, 0, 0);
     let mut accepted_second = 0;
+    let (mut exported, mut misnamed) = (0, [0; 2]);
     for index in 0..30_000 {
         let pair = pair(6, index);
         let (first, second) = compare_pair(&pair, index);
         let in_second = pair.first.sheet.edition == Edition::Second;
         accepted_second += u32::from(in_second && first == 0);
+        let several_exports = pair.first.sheet.exports.len() > 1;
+        exported += u32::from(in_second && first == 0 && several_exports);
+        if matches!(first, 27 | 28) {
+            assert_eq!(second, first, "pair {index}");
+            misnamed[first as usize - 27] += 1;
+        }
         match first {
             0 => accepted += 1,
             _ => refused += 1,
@@ -53,6 +60,8 @@ fn pairs_agree_as_demand_3_says() {
     assert!(refused >= 5_000, "{refused} refused");
     let in_each = accepted_second.min(accepted - accepted_second);
     assert!(in_each >= 5_000, "{accepted_second} of the second edition");
+    assert!(exported >= 2_000, "{exported} of them with exports");
+    assert!(misnamed.iter().all(|&n| n >= 100), "{misnamed:?}");
     // The refusal's kind may differ, and now and then it does.
     assert!(other_kind > 0);
 }

@@ -1,11 +1,12 @@
 //! Large sheets: a module with one list filled up to a wanted number of words.
 
-use sheets::build::{function, hook_function, ret_void, structure};
+use sheets::build::{export, function, hook_function, ret_void, structure};
 use sheets::{
-    encode_hosts, encode_sheet, Constant, Export, ExportKind, Function, Global, HostEntry, Sheet,
+    encode_hosts, encode_sheet, Constant, ExportKind, Function, Global, HostEntry, Sheet,
     TypeEntry, ValueType, DYN,
 };
 
+use crate::faults::EXPORT_FAULTS;
 use crate::texts::long;
 use crate::{Draft, Rng};
 
@@ -46,11 +47,7 @@ pub fn fill(rng: &mut Rng, draft: &mut Draft, words: usize) {
         8 => sheet
             .hooks
             .extend((0..room / 3).map(|k| hook_function(k as u32 % 7, hooked))),
-        9 => sheet.exports.extend((0..room / 3).map(|_| Export {
-            kind: ExportKind::Type,
-            name: rng.word(),
-            index: rng.index(types),
-        })),
+        9 => add_exports(rng, draft, words),
         _ => {
             let code = &mut sheet.functions[hooked as usize].code;
             code.extend((0..room / 2).map(|_| ret_void()));
@@ -61,6 +58,29 @@ pub fn fill(rng: &mut Rng, draft: &mut Draft, words: usize) {
 /// An array of one of many types, so that some are equal.
 fn array(rng: &mut Rng, types: usize) -> TypeEntry {
     TypeEntry::Array(ValueType::reference(rng.index(types)))
+}
+
+/// Types exported under any names, or each under a string of its own; now and then one export among them has a fault.
+fn add_exports(rng: &mut Rng, draft: &mut Draft, words: usize) {
+    if rng.one_in(3) {
+        (rng.pick(EXPORT_FAULTS).apply)(rng, draft);
+    }
+    let have = encode_sheet(&draft.sheet).words.len();
+    let room = words.saturating_sub(have);
+    let sheet = &mut draft.sheet;
+    let (first, types) = (sheet.strings.len() as u32, sheet.types.len());
+    let own_names = sheet.edition.reads_export_names() || rng.one_in(3);
+    // An export takes three words, and the string of eight bytes that it alone is named by three more.
+    let count = room / if own_names { 6 } else { 3 };
+    if own_names {
+        let texts = (0..count).map(|k| format!("{k:08x}").into_bytes());
+        sheet.strings.extend(texts);
+    }
+    sheet.exports.extend((first..).take(count).map(|own| {
+        let name = if own_names { own } else { rng.word() };
+        export(ExportKind::Type, name, rng.index(types))
+    }));
+    rng.shuffle(&mut sheet.exports);
 }
 
 /// A large forest with chains up to the limit.

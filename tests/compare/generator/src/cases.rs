@@ -2,7 +2,9 @@
 
 use sheets::{encode_hosts, encode_sheet, needed, renumber, HostEntry, Words, MOST_BLOCKS, WORDS};
 
-use crate::borders::{at_border, borders, chains, several_faults, wide_borders, Border};
+use crate::borders::{
+    at_border, borders, chains, export_names, several_faults, wide_borders, Border,
+};
 use crate::bulk::{fill, fill_hosts};
 use crate::damage::{change_edition, change_word, damage_bytes, damage_frame, damage_words};
 use crate::faults::some_fault;
@@ -23,16 +25,17 @@ pub fn case(seed: u64, index: u64) -> Case {
     let mut rng = Rng::new(seed, index);
     let rng = &mut rng;
     match rng.below(1000) {
-        0..=129 => whole("valid", rng, Scale::any),
-        130..=159 => chain(rng),
-        160..=309 => faulty(rng, Scale::any),
-        310..=489 => {
+        0..=109 => whole("valid", rng, Scale::any),
+        110..=139 => of_own_edition(rng, &chains()),
+        140..=199 => of_own_edition(rng, &export_names()),
+        200..=329 => faulty(rng, Scale::any),
+        330..=499 => {
             let draft = loose(rng);
             finish("loose".to_string(), rng, draft)
         }
-        490..=589 => border(rng, &several_faults()),
-        590..=709 => border(rng, &borders()),
-        710..=829 => damaged(rng),
+        500..=599 => border(rng, &several_faults()),
+        600..=719 => border(rng, &borders()),
+        720..=829 => damaged(rng),
         830..=879 => host_damage(rng),
         880..=919 => short(rng),
         920..=959 => whole("families", rng, |_| Scale::families()),
@@ -47,8 +50,9 @@ fn border(rng: &mut Rng, all: &[Border]) -> Case {
     finish(label.to_string(), rng, draft)
 }
 
-fn chain(rng: &mut Rng) -> Case {
-    let (label, make) = rng.pick(&chains());
+/// At a border that chooses the edition itself.
+fn of_own_edition(rng: &mut Rng, all: &[Border]) -> Case {
+    let (label, make) = rng.pick(all);
     let draft = make(rng);
     finish(label.to_string(), rng, draft)
 }

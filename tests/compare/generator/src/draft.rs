@@ -1,7 +1,7 @@
 //! A sheet and its host list as plain data, before any byte of it is written.
 
 use sheets::build::func;
-use sheets::{Edition, HostEntry, Sheet, TypeEntry, ValueType, DYN};
+use sheets::{Edition, Export, ExportKind, HostEntry, Sheet, TypeEntry, ValueType, DYN};
 
 use crate::Rng;
 
@@ -45,6 +45,44 @@ impl Draft {
             strings.push(text.to_vec());
             strings.len() - 1
         }) as u32
+    }
+
+    /// A string whose bytes name no export, found or added.
+    pub fn free_name(&mut self, rng: &mut Rng) -> u32 {
+        let Sheet {
+            strings, exports, ..
+        } = &mut self.sheet;
+        let named = exports.iter().filter_map(|e| strings.get(e.name as usize));
+        let taken: Vec<&Vec<u8>> = named.collect();
+        let free = (0..).zip(&*strings).filter(|(_, s)| !taken.contains(s));
+        let free: Vec<u32> = free.map(|(i, _)| i).collect();
+        rng.choose(&free).unwrap_or_else(|| {
+            let last = strings.len();
+            strings.push(format!("name {last}").into_bytes());
+            last as u32
+        })
+    }
+
+    /// How many items of a kind there are to export.
+    pub fn items(&self, kind: ExportKind) -> usize {
+        match kind {
+            ExportKind::Function => self.sheet.functions.len(),
+            ExportKind::Global => self.sheet.globals.len(),
+            ExportKind::Type => self.sheet.types.len(),
+        }
+    }
+
+    /// An item to export, unless there is none of the kind that was drawn.
+    pub fn some_item(&self, rng: &mut Rng) -> Option<(ExportKind, u32)> {
+        let kind = rng.pick(&ExportKind::ALL);
+        let count = self.items(kind);
+        (count > 0).then(|| (kind, rng.index(count)))
+    }
+
+    /// Puts the export anywhere among the others.
+    pub fn insert_export(&mut self, rng: &mut Rng, export: Export) {
+        let at = rng.below(self.sheet.exports.len() + 1);
+        self.sheet.exports.insert(at, export);
     }
 
     /// Numbers of the types for which the test holds.

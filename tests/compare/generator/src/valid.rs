@@ -1,8 +1,7 @@
 //! Modules without a fault, with a host list that resolves their imports.
 
-use sheets::{
-    CalleeKind, Export, ExportKind, Global, HookBinding, HostEntry, Import, ValueType, DYN,
-};
+use sheets::build::export;
+use sheets::{CalleeKind, Global, HookBinding, HostEntry, Import, ValueType, DYN};
 
 use crate::draft::edition;
 use crate::forest::{types, Counts};
@@ -171,18 +170,26 @@ fn add_start(rng: &mut Rng, draft: &mut Draft) {
     draft.sheet.start = rng.choose(&starts).filter(|_| rng.coin());
 }
 
-/// Exports in range, with any name.
+/// Exports in range, each with a name of its own where names are read, and else at times.
 fn add_exports(rng: &mut Rng, draft: &mut Draft, scale: &Scale) {
+    let own_names = draft.sheet.edition.reads_export_names() || rng.one_in(3);
     for _ in 0..rng.within(0, scale.exports) {
-        let sheet = &mut draft.sheet;
-        let (kind, len) = match rng.below(3) {
-            0 => (ExportKind::Function, sheet.functions.len()),
-            1 => (ExportKind::Global, sheet.globals.len()),
-            _ => (ExportKind::Type, sheet.types.len()),
+        let Some((kind, index)) = draft.some_item(rng) else {
+            continue;
         };
-        if len > 0 {
-            let (name, index) = (rng.word(), rng.index(len));
-            sheet.exports.push(Export { kind, name, index });
-        }
+        let name = if own_names {
+            draft.free_name(rng)
+        } else {
+            any_name(rng, draft)
+        };
+        draft.sheet.exports.push(export(kind, name, index));
     }
+}
+
+/// A name that need not be read: any word, a string, one past the strings, or that of another export.
+fn any_name(rng: &mut Rng, draft: &Draft) -> u32 {
+    let strings = draft.sheet.strings.len();
+    let [any, string, absent] = [rng.word(), rng.index(strings), rng.absent(strings)];
+    let other = rng.choose(&draft.sheet.exports).map_or(string, |e| e.name);
+    rng.pick(&[any, string, absent, other])
 }

@@ -94,3 +94,8 @@ pub fn hook_import(hook: u32, index: u32) -> HookBinding {
         index,
     }
 }
+
+/// An export.
+pub fn export(kind: ExportKind, name: u32, index: u32) -> Export {
+    Export { kind, name, index }
+}

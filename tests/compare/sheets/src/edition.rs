@@ -27,4 +27,9 @@ impl Edition {
             Edition::Second => 64,
         }
     }
+
+    /// Whether an export's name must be a string, with bytes that no other export's name has.
+    pub fn reads_export_names(self) -> bool {
+        self == Edition::Second
+    }
 }

@@ -131,6 +131,10 @@ pub enum ExportKind {
     Type,
 }
 
+impl ExportKind {
+    pub const ALL: [ExportKind; 3] = [ExportKind::Function, ExportKind::Global, ExportKind::Type];
+}
+
 #[derive(Clone, Copy, Debug, PartialEq, Eq)]
 pub struct Export {
     pub kind: ExportKind,

@@ -167,6 +167,18 @@ enum-told-21 c = search needs
 at-requires-26 : tie.Need-at-requires-26
 at-requires-26 c κs = search needs
 
+enum-known-k-6 : tie.Need-enum-known-k-6
+enum-known-k-6 c = search needs
+
+at-requires-27 : tie.Need-at-requires-27
+at-requires-27 c κs = search needs
+
+enum-known-k-7 : tie.Need-enum-known-k-7
+enum-known-k-7 c = search needs
+
+at-requires-28 : tie.Need-at-requires-28
+at-requires-28 c κs = search needs
+
 returns : tie.Need-returns
 returns c = unfold kindNumbers in by-kind _ _ _ (c .before .enum-told .given .1) (c .at .ensures)
 
@@ -245,6 +257,12 @@ returns-25 c = unfold kindNumbers in by-kind _ _ _ (c .before .enum-told20 .give
 returns-26 : tie.Need-returns-26
 returns-26 c = unfold kindNumbers in by-kind _ _ _ (c .before .enum-told21 .given .1) (c .at26 .ensures)
 
+returns-27 : tie.Need-returns-27
+returns-27 c = search (needs, payloads)
+
+returns-28 : tie.Need-returns-28
+returns-28 c = search (needs, payloads)
+
 pub refusal-spec : {M : Type 1} → statement M
 refusal-spec =
     tie.close
@@ -303,6 +321,10 @@ refusal-spec =
     at-requires-25
     enum-told-21
     at-requires-26
+    enum-known-k-6
+    at-requires-27
+    enum-known-k-7
+    at-requires-28
     returns
     returns-2
     returns-3
@@ -328,4 +350,6 @@ refusal-spec =
     returns-23
     returns-24
     returns-25
-    returns-26)
+    returns-26
+    returns-27
+    returns-28)

@@ -1,5 +1,7 @@
 //! Rules 5 and 8: imports, globals, hooks, start, exports; and the pieces that rules share.
 
+use std::collections::HashSet;
+
 use sheets::{CalleeKind, ExportKind, HostEntry, Param, Sheet, TypeEntry, ValueType};
 
 /// Six numbers.
@@ -144,9 +146,18 @@ pub fn start(sheet: &Sheet) -> Result<(), Fault> {
 }
 
 pub fn exports(sheet: &Sheet) -> Result<(), Fault> {
-    sheet.exports.iter().try_for_each(|e| match e.kind {
-        ExportKind::Function => range(2, e.index, sheet.functions.len()),
-        ExportKind::Global => range(7, e.index, sheet.globals.len()),
-        ExportKind::Type => range(1, e.index, sheet.types.len()),
-    })
+    let mut exported = HashSet::new();
+    for (place, e) in (0..).zip(&sheet.exports) {
+        match e.kind {
+            ExportKind::Function => range(2, e.index, sheet.functions.len()),
+            ExportKind::Global => range(7, e.index, sheet.globals.len()),
+            ExportKind::Type => range(1, e.index, sheet.types.len()),
+        }?;
+        if sheet.edition.reads_export_names() {
+            let name = sheet.strings.get(e.name as usize);
+            let name = name.ok_or([27, 0, e.name, 0, 0, 0])?;
+            unless(exported.insert(name), [28, 0, place, 0, 0, 0])?;
+        }
+    }
+    Ok(())
 }

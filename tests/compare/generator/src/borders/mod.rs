@@ -3,6 +3,7 @@
 mod calls;
 mod families;
 mod layout;
+mod names;
 mod several;
 mod shapes;
 
@@ -36,9 +37,14 @@ pub fn chains() -> Vec<Border> {
     families::CHAINS.to_vec()
 }
 
+/// Export names in both editions.
+pub fn export_names() -> Vec<Border> {
+    [names::BORDERS, names::SEVERAL].concat()
+}
+
 /// One place with several faults.
 pub fn several_faults() -> Vec<Border> {
-    several::BORDERS.to_vec()
+    [several::BORDERS, names::SEVERAL].concat()
 }
 
 /// Borders at 65,536, which take hundreds of blocks.

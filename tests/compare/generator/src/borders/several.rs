@@ -1,9 +1,9 @@
 //! One record or instruction with several faults: which one is reported shows the order of the tests.
 
-use sheets::build::{abc, aw, func, function, hook_function, import, ret_void, strings};
+use sheets::build::{abc, aw, export, func, function, hook_function, import, ret_void, strings};
 use sheets::{
-    op, Export, ExportKind, Function, Handler, HostEntry, Param, ShapeEntry, Sheet, TypeEntry,
-    ValueType, DYN, STR,
+    op, ExportKind, Function, Handler, HostEntry, Param, ShapeEntry, Sheet, TypeEntry, ValueType,
+    DYN, STR,
 };
 
 use super::Border;
@@ -248,13 +248,10 @@ fn ends(rng: &mut Rng) -> Draft {
     if rng.coin() {
         out.sheet.start = Some(rng.pick(&[0, 0, 5, 6]));
     }
-    for _ in 0..rng.within(0, 2) {
-        let kinds = [ExportKind::Function, ExportKind::Global, ExportKind::Type];
-        out.sheet.exports.push(Export {
-            kind: rng.pick(&kinds),
-            name: 0,
-            index: rng.pick(&[0, 7, 8]),
-        });
+    for _ in 0..rng.within(0, 3) {
+        let kind = rng.pick(&ExportKind::ALL);
+        let (name, index) = (rng.pick(&[0, 1, 5, 6]), rng.pick(&[0, 0, 7, 8]));
+        out.sheet.exports.push(export(kind, name, index));
     }
     out
 }

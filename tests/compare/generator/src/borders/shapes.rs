@@ -1,9 +1,11 @@
 //! Borders of parameter lists, scheduler, hooks, start and exports.
 
-use sheets::build::{func, function, hook_function, hook_import, import, ret_void, strings};
+use sheets::build::{
+    export, func, function, hook_function, hook_import, import, ret_void, strings,
+};
 use sheets::{
-    Export, ExportKind, Function, Global, HostEntry, Param, ShapeEntry, Sheet, TypeEntry,
-    ValueType, DYN, STR,
+    ExportKind, Function, Global, HostEntry, Param, ShapeEntry, Sheet, TypeEntry, ValueType, DYN,
+    STR,
 };
 
 use super::Border;
@@ -169,8 +171,8 @@ fn exports(rng: &mut Rng) -> Draft {
         ];
         let (kind, len) = rng.pick(&kinds);
         let index = len - u32::from(!rng.one_in(3));
-        let name = rng.pick(&[0, 99, u32::MAX]);
-        out.sheet.exports.push(Export { kind, name, index });
+        let name = rng.pick(&[0, 1, 2, 3, u32::MAX]);
+        out.sheet.exports.push(export(kind, name, index));
     }
     out
 }

@@ -1,7 +1,7 @@
-//! Faults of rule 8: hooks, start, exports.
+//! Faults of rule 8: hooks and start.
 
 use sheets::build::{function, hook_function, hook_import, ret_void};
-use sheets::{Export, ExportKind, Function, ValueType, DYN};
+use sheets::{Function, ValueType, DYN};
 
 use super::{fault, Fault};
 use crate::valid::hook_shape;
@@ -14,15 +14,6 @@ pub const FAULTS: &[Fault] = &[
     fault("start function", 3, 2, start_absent),
     fault("start's shape", 20, 0, start_shape),
     fault("start with captures", 9, 0, start_captures),
-    fault("exported function", 3, 2, |rng, d| {
-        export(rng, d, ExportKind::Function)
-    }),
-    fault("exported global", 3, 7, |rng, d| {
-        export(rng, d, ExportKind::Global)
-    }),
-    fault("exported type", 3, 1, |rng, d| {
-        export(rng, d, ExportKind::Type)
-    }),
 ];
 
 /// Puts the binding anywhere among the others; each one is judged.
@@ -98,19 +89,4 @@ fn start_shape(rng: &mut Rng, draft: &mut Draft) {
 fn start_captures(rng: &mut Rng, draft: &mut Draft) {
     let captures = rng.within(1, 3);
     draft.sheet.start = Some(add(draft, &[], &[], captures));
-}
-
-fn export(rng: &mut Rng, draft: &mut Draft, kind: ExportKind) {
-    let len = match kind {
-        ExportKind::Function => draft.sheet.functions.len(),
-        ExportKind::Global => draft.sheet.globals.len(),
-        ExportKind::Type => draft.sheet.types.len(),
-    };
-    let export = Export {
-        kind,
-        name: rng.word(),
-        index: rng.absent(len),
-    };
-    let at = rng.below(draft.sheet.exports.len() + 1);
-    draft.sheet.exports.insert(at, export);
 }

@@ -2,6 +2,7 @@
 
 mod code;
 mod ends;
+mod exports;
 mod fields;
 mod imports;
 mod params;
@@ -12,6 +13,8 @@ use sheets::build::{function, ret_void};
 use sheets::{Function, DYN};
 
 use crate::{Draft, Rng};
+
+pub use exports::FAULTS as EXPORT_FAULTS;
 
 /// A fault and the kind and word that it aims at.
 #[derive(Clone, Copy)]
@@ -40,6 +43,7 @@ pub fn faults() -> Vec<Fault> {
         code::FAULTS,
         fields::FAULTS,
         ends::FAULTS,
+        exports::FAULTS,
     ]
     .concat()
 }

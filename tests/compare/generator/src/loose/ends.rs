@@ -1,5 +1,6 @@
 //! Loose hooks, start and exports.
 
+use sheets::build::export;
 use sheets::{CalleeKind, Export, ExportKind, HookBinding};
 
 use super::{Dice, Part};
@@ -12,7 +13,7 @@ impl Dice<'_> {
             draft.sheet.hooks.extend(binding);
         }
         draft.sheet.start = self.moody(Part::Ends, |dice| dice.start(draft));
-        for _ in self.times(2) {
+        for _ in self.times(3) {
             let export = self.moody(Part::Ends, |dice| dice.export(draft));
             draft.sheet.exports.push(export);
         }
@@ -54,17 +55,23 @@ impl Dice<'_> {
         })
     }
 
-    fn export(&mut self, draft: &Draft) -> Export {
-        let sheet = &draft.sheet;
-        let (kind, len) = match self.rng.below(3) {
-            0 => (ExportKind::Function, sheet.functions.len()),
-            1 if !sheet.globals.is_empty() => (ExportKind::Global, sheet.globals.len()),
-            _ => (ExportKind::Type, sheet.types.len()),
+    fn export(&mut self, draft: &mut Draft) -> Export {
+        let kind = match self.rng.below(3) {
+            0 => ExportKind::Function,
+            1 if !draft.sheet.globals.is_empty() => ExportKind::Global,
+            _ => ExportKind::Type,
         };
-        Export {
-            kind,
-            name: self.rng.index(9),
-            index: self.number(len),
+        let index = self.number(draft.items(kind));
+        export(kind, self.name(draft), index)
+    }
+
+    /// Any of a few names, and mostly the export's own where names are read.
+    fn name(&mut self, draft: &mut Draft) -> u32 {
+        let any = self.rng.index(5);
+        let own = draft.sheet.edition.reads_export_names() && !self.rng.one_in(6);
+        if own && !self.fault() {
+            return draft.free_name(self.rng);
         }
+        any
     }
 }

@@ -1,2 +1,0 @@
-pub mod ExportSteps
-pub mod StartSteps

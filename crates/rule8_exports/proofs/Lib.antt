@@ -1,0 +1,3 @@
+pub mod ExportSteps
+pub mod NameSteps
+pub mod LoopSteps
