@@ -52,7 +52,7 @@ fn check_index(sheet: &[u8], o: Opened, i: u32) -> Verdict
     type_in(TypeId(index), o.counts.types)
 }
 
-// No export before has set the mark of the name, which is that of the export at place i. Sets it.
+// The name of the export at place i, a string, has no mark yet: no export before has its bytes. Sets it.
 fn mark_name(sheet: &[u8], work: &mut [u32], o: Opened, i: u32, name: StrId) -> Verdict
     requires { ⌜ Naming (sheetWords (now sheet) o) (now work) o i (name .0) ⌝ }
     ensures { λ r. ⌜ r ≡ verdictOf (nameFaults (moduleOf (now (sheet .entry)) o) i (exportAt (moduleOf (now (sheet .entry)) o) i)) ⌝ }
