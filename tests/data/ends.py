@@ -1,6 +1,6 @@
 """Cases of rule 8: hooks, start, exports; and of the rules' order. By docs/FORMAT.md, apart from the definitions."""
-from answers import (CAPTURES, CONSTANT, DEEP, EMPTY, EXPORTED, EXPORT_NAME, FALLS, FUNCTION, GLOBAL, HOLDS, HOOK, IMPORT, PARAM_LIST, REGISTER,
-                     START, TYPE, at, collection)
+from answers import (CAPTURES, CONSTANT, DEEP, EMPTY, EXPORTED, EXPORT_NAME, FALLS, FUNCTION, GLOBAL, HOLDS, HOOK, IMPORT, PARAM_LIST,
+                     REGISTER, START, TYPE, at, collection)
 from sheets import COROUTINE, DYN, I64, MOST, STR, cell, fn, func, import_, inst, param_list, ref, struct
 
 CASES, case = collection()

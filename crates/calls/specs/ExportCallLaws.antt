@@ -52,8 +52,9 @@ reads-first {e} h = ne-eqb e 2 (λ z. omega arith)
 
 module _ (m : Module) (r : readsExportNames (m .edition) ≡ true) (i : ℕ) (e : exportFaults m i (exportAt m i) ≡ []) where
   name-right : nameFaults m i (exportAt m i) ≡ []
-  name-right = (append-empty (indexFaults m (exportAt m i)) (nameFaults m i (exportAt m i))) .0 (sym (names-read m i (exportAt m i) r)
-      ∙ e) .1
+  name-right =
+      let x = exportAt m i in
+      (append-empty (indexFaults m x) (nameFaults m i x)) .0 (sym (names-read m i x r) ∙ e) .1
 
   name-string : exportAt m i .name < length (m .strings)
   name-string = name-kept m i (exportAt m i) name-right .0
@@ -124,8 +125,8 @@ module _ (m : Module) (k : LoadErrorKind) (n : ofNames k ≡ true) where
 
       go : (t : Bool) → readsExportNames (m .edition) ≡ t → Origin m k
       go true r =
-          append-first (indexFaults m (exportAt m i)) (nameFaults m i (exportAt m i)) k ks (sym (names-read m i (exportAt m i) r)
-          ∙ q) indexed
+          let x = exportAt m i in
+          append-first (indexFaults m x) (nameFaults m i x) k ks (sym (names-read m i x r) ∙ q) indexed
           λ e f. record { reads = r; place = i; inside = l; before = b; rest = ks; fault = f }
       go false r = indexed ks (sym (names-unread m i (exportAt m i) r) ∙ q)
 
@@ -242,8 +243,8 @@ answered sheet hosts table work m d =
       accepted = λ l e q.
           let k = (accepted sheet hosts table work l) .0 q in
           let z : k .source ≡ m = some-same (k .source) m (sym (k .decodes) ∙ d) in
-          picks m (reads-second (edition
-          ∙ e)) (last-empty m (k .hostList) (subst (λ (y : Module). faultsOf (k .hostList) y ≡ []) z (k .kept)));
+          let none : faultsOf (k .hostList) m ≡ [] = subst (λ (y : Module). faultsOf (k .hostList) y ≡ []) z (k .kept) in
+          picks m (reads-second (edition ∙ e)) (last-empty m (k .hostList) none);
       outOfRange = out-of-range sheet hosts table work m d;
       duplicate = duplicate-at sheet hosts table work m d;
       unread = λ e. ap (map inModule) (indexes-alone m (reads-first (edition ∙ e)) 0 (m .exports));

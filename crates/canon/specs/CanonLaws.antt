@@ -120,8 +120,7 @@ module _ (types : List TypeDef) where
         go true e = ap (typeAt types) (canon-struct t e)
         go false e = ap (typeAt types) (canon-other t e) ∙ sym (found (typeAt types t) (good-at types good t) (first-own t h))
 
-    mixed : (t u : ℕ) → isStruct (typeAt types t) ≡ true → isStruct (typeAt types u) ≡ false →
-        t ≡ firstAt (sameType (typeAt types u)) types → ⊥
+    mixed : (t u : ℕ) → isStruct (typeAt types t) ≡ true → isStruct (typeAt types u) ≡ false → t ≡ firstAt (sameType (typeAt types u)) types → ⊥
     mixed t u s o e =
         let h : firstAt (sameType (typeAt types u)) types < length types = omega (arith, struct-known types t s) in
         let q : typeAt types u ≡ typeAt types t = found (typeAt types u) (good-at types good u) h ∙ ap (typeAt types) (sym e) in
@@ -131,10 +130,8 @@ module _ (types : List TypeDef) where
     others : (t u : ℕ) → firstAt (sameType (typeAt types t)) types ≡ firstAt (sameType (typeAt types u)) types →
         Dec (firstAt (sameType (typeAt types t)) types < length types) → typeAt types t ≡ typeAt types u
     others t u e (yes h) =
-        found (typeAt types t) (good-at types good t) h ∙ ap (typeAt types) e
-        ∙ sym (found (typeAt types u) (good-at types good u) (omega arith))
-    others t u e (no h) = type-out types t (unknown t (decLt t (length types)) h)
-        ∙ sym (type-out types u (unknown u (decLt u (length types)) (λ l. h (omega arith))))
+        found (typeAt types t) (good-at types good t) h ∙ ap (typeAt types) e ∙ sym (found (typeAt types u) (good-at types good u) (omega arith))
+    others t u e (no h) = type-out types t (unknown t (decLt t (length types)) h) ∙ sym (type-out types u (unknown u (decLt u (length types)) (λ l. h (omega arith))))
       where
         unknown : (x : ℕ) → Dec (x < length types) → (firstAt (sameType (typeAt types x)) types < length types → ⊥) → length types ≤ x
         unknown x (yes l) n = absurd (n (first-own x l))
@@ -143,20 +140,14 @@ module _ (types : List TypeDef) where
     pub canon-alike : (t u : ℕ) → (canonType types t ≡ canonType types u) ↔ Alike types t u
     canon-alike t u = (λ e. there e (isStruct (typeAt types t)) (isStruct (typeAt types u)) refl refl, back)
       where
-        there : canonType types t ≡ canonType types u → (b c : Bool) → isStruct (typeAt types t) ≡ b → isStruct (typeAt types u) ≡ c →
-            Alike types t u
+        there : canonType types t ≡ canonType types u → (b c : Bool) → isStruct (typeAt types t) ≡ b → isStruct (typeAt types u) ≡ c → Alike types t u
         there e true true s o = inl (sym (canon-struct t s) ∙ e ∙ canon-struct u o)
         there e true false s o = absurd (mixed t u s o (sym (canon-struct t s) ∙ e ∙ canon-other u o))
         there e false true s o = absurd (mixed u t o s (sym (canon-struct u o) ∙ sym e ∙ canon-other t s))
         there e false false s o =
-            inr (
-              s,
-              others t u (sym (canon-other t s) ∙ e
-                  ∙ canon-other u o) (decLt (firstAt (sameType (typeAt types t)) types) (length types)),
-            )
+            inr (s, others t u (sym (canon-other t s) ∙ e ∙ canon-other u o) (decLt (firstAt (sameType (typeAt types t)) types) (length types)))
 
         back : Alike types t u → canonType types t ≡ canonType types u
         back (inl e) = ap (canonType types) e
         back (inr h) =
-            canon-other t (h .0) ∙ ap (λ (d : TypeDef). firstAt (sameType d) types) (h .1)
-            ∙ sym (canon-other u (sym (ap isStruct (h .1)) ∙ h .0))
+            canon-other t (h .0) ∙ ap (λ (d : TypeDef). firstAt (sameType d) types) (h .1) ∙ sym (canon-other u (sym (ap isStruct (h .1)) ∙ h .0))

@@ -35,8 +35,8 @@ module _ {six : List ℕ} {k : LoadErrorKind} (f p : ℕ) where
   pub by-hook : (hook : ℕ) → k ≡ BadHook hook → six ≡ 19 ∷ 0 ∷ hook ∷ 0 ∷ f ∷ p ∷ [] → six ≡ kindNumbers k ++ (f ∷ p ∷ [])
   by-hook hook e h = by-kind (BadHook hook) f p e (unfold kindNumbers in h)
 
-  pub by-name : (name : StrId) → k ≡ ExportNameOutOfRange name → six ≡ 27 ∷ 0 ∷ name .0 ∷ 0 ∷ f ∷ p ∷ [] → six ≡ kindNumbers k
-      ++ (f ∷ p ∷ [])
+  pub by-name : (name : StrId) → k ≡ ExportNameOutOfRange name → six ≡ 27 ∷ 0 ∷ name .0 ∷ 0 ∷ f ∷ p ∷ [] →
+      six ≡ kindNumbers k ++ (f ∷ p ∷ [])
   by-name name e h = by-kind (ExportNameOutOfRange name) f p e (unfold kindNumbers in h)
 
   pub by-repeat : (i : ℕ) → k ≡ DuplicateExport i → six ≡ 28 ∷ 0 ∷ i ∷ 0 ∷ f ∷ p ∷ [] → six ≡ kindNumbers k ++ (f ∷ p ∷ [])

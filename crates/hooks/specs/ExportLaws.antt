@@ -57,8 +57,9 @@ module _ (m : Module) (i : ℕ) (e : Export) where
   by-tests : (p q : Bool) → ltb (e .name) (length (m .strings)) ≡ p → isDuplicate m i e ≡ q →
       nameFaults m i e ≡ unless p (ExportNameOutOfRange (stringNumber (e .name))) ++ unless (not q) (DuplicateExport i)
   unfolding nameFaults
-  by-tests p q f g = ap₂ (λ (p q : Bool). unless p (ExportNameOutOfRange (stringNumber (e .name)))
-      ++ unless (not q) (DuplicateExport i)) f g
+  by-tests p q f g =
+      let out = ExportNameOutOfRange (stringNumber (e .name)) in
+      ap₂ (λ (p q : Bool). unless p out ++ unless (not q) (DuplicateExport i)) f g
 
   -- no string has the number: 27 first, whatever else
   pub name-absent : length (m .strings) ≤ e .name → take 1 (nameFaults m i e) ≡ ExportNameOutOfRange (stringNumber (e .name)) ∷ []
