@@ -1,16 +1,17 @@
 -- What the names of exports decide, of every call.
 use Prim.Native.Nat.{ℕ, suc, _+_, _<_}
 use mathlib.Core.Path.{_≡_, refl, sym, ap, ap₂, subst, _∙_}
-use mathlib.Core.Bool.{Bool, true, false, _&&_, _||_, or-true}
+use mathlib.Core.Bool.{Bool, true, false, not, _&&_, _||_, or-true}
 use mathlib.Core.List.{List, [], _∷_, _++_, map}
 use mathlib.Core.Option.{some}
 use native.Mathlib.Omega.{arith}
 use native.Mathlib.Decide.{decLt}
 use lib.Dec.{eqb, ltb}
 use lib.ListN.{length, getD}
-use borrow.Author.Tests.{eq-eqb, ne-eqb, eqb-true}
+use borrow.Author.Tests.{eq-eqb, ne-eqb, eqb-true, not-true}
 use Rattle.lists.specs.Lists.{allOf, concatMap, concatMapFrom}
 use Rattle.lists.specs.ListLaws.{and-first}
+use Rattle.lists.specs.AllLaws.{contained-passes}
 use Rattle.error.specs.declared.StrId.{StrId}
 use Rattle.error.specs.declared.LoadErrorKind.{LoadErrorKind}
 use Rattle.error.specs.declared.LoadErrorKind.the-variants.{ExportNameOutOfRange, DuplicateExport}
@@ -27,7 +28,7 @@ use Rattle.hooks.specs.ExportLaws.{earlier-duplicate, name-kept, name-broken, n
 use Rattle.table.specs.Table.{tableOf}
 use Rattle.load.specs.Load.{moduleFaults, faultsOf, longEnough, Opened, refused, opened, opening, answer, load}
 use Rattle.load.specs.LoadLaws.{module-opened}
-use Rattle.load.specs.Kinds.{kindNumber, judged, beforeExports, ofNames, ofRules}
+use Rattle.load.specs.Kinds.{kindNumber, judged, beforeExports, ofNames, ofRules, judged-before}
 use Rattle.load.specs.RuleKinds.{index-kinds, earlierFaults, earlier-kinds}
 use Rattle.load.specs.KindLaws.{early-apart, refused-early, accepted}
 use Rattle.law_faults.specs.Empty.{not-empty, append-empty, append-first, map-empty, every-from, first-from}
@@ -87,20 +88,13 @@ picks m r h = record {
 
 names-apart : (k : LoadErrorKind) → ofNames k ≡ true → beforeExports k ≡ false
 unfolding ofNames beforeExports judged
-names-apart k h = go (kindNumber k) (eqb (kindNumber k) 27) (eqb (kindNumber k) 28) refl refl h
-  where
-    go : (n : ℕ) (a b : Bool) → eqb n 27 ≡ a → eqb n 28 ≡ b → (a || (b || false)) ≡ true → (ltb 1 n && ltb n 23 || eqb n 26) ≡ false
-    go n true b p q h = rw (eqb-true n 27 p)
-    go n false true p q h = rw (eqb-true n 28 q)
-    go n false false p q h = let z : _≡_ {A = ℕ} 0 1 = cc in absurd (omega arith)
+names-apart k h =
+    let earlier : ℕ → Bool = λ n. ltb 1 n && ltb n 23 || eqb n 26 in
+    not-true (earlier (kindNumber k)) (contained-passes (λ n. not (earlier n)) (27 ∷ 28 ∷ []) (kindNumber k) refl h)
 
 -- where a fault of that kind is no first one of a list whose kinds come before exports
 none-such : {C : Type 0} (k : LoadErrorKind) → ofNames k ≡ true → beforeExports k ≡ true → C
 none-such k h t = let f = names-apart k h in let z : _≡_ {A = ℕ} 0 1 = cc in absurd (omega arith)
-
-judged-before : (k : LoadErrorKind) → judged k ≡ true → beforeExports k ≡ true
-unfolding beforeExports
-judged-before k h = ap (λ (b : Bool). b || eqb (kindNumber k) 26) h
 
 -- the export at a place has it, in edition 2, and those before it hold
 record Origin (m : Module) (k : LoadErrorKind) : Type 0 where

@@ -62,12 +62,13 @@ module _ (m : Module) (i : ℕ) (e : Export) where
       ap₂ (λ (p q : Bool). unless p out ++ unless (not q) (DuplicateExport i)) f g
 
   -- no string has the number: 27 first, whatever else
-  pub name-absent : length (m .strings) ≤ e .name → take 1 (nameFaults m i e) ≡ ExportNameOutOfRange (stringNumber (e .name)) ∷ []
-  name-absent h = ap (take 1) (by-tests false (isDuplicate m i e) (le-ltb (e .name) (length (m .strings)) h) refl)
+  pub name-absent : length (m .strings) ≤ e .name →
+      nameFaults m i e ≡ ExportNameOutOfRange (stringNumber (e .name)) ∷ unless (not (isDuplicate m i e)) (DuplicateExport i)
+  name-absent h = by-tests false (isDuplicate m i e) (le-ltb (e .name) (length (m .strings)) h) refl
 
-  -- one of the first i exports has the name: 28 with the later place
-  pub name-taken : e .name < length (m .strings) → Earlier m i e → nameFaults m i e ≡ DuplicateExport i ∷ []
-  name-taken h x = by-tests true true (lt-ltb (e .name) (length (m .strings)) h) (earlier-duplicate x)
+  -- a string that one of the first i exports has as its name: 28 with the later place
+  pub name-taken : e .name < length (m .strings) → isDuplicate m i e ≡ true → nameFaults m i e ≡ DuplicateExport i ∷ []
+  name-taken h x = by-tests true true (lt-ltb (e .name) (length (m .strings)) h) x
 
   -- else nothing
   pub name-free : e .name < length (m .strings) → isDuplicate m i e ≡ false → nameFaults m i e ≡ []

@@ -1,12 +1,14 @@
 -- Laws of `allOf` and `anyOf` over joined and mapped lists.
-use mathlib.Core.Path.{_≡_, refl, sym, ap, ap₂, _∙_}
+use mathlib.Core.Path.{_≡_, refl, sym, ap, ap₂, subst, _∙_}
 use mathlib.Core.List.{List, [], _∷_, _++_, map}
 use mathlib.Core.Bool.{Bool, true, false, _&&_, _||_, and-assoc, or-assoc, or-true}
 use Prim.Native.Nat.{ℕ, zero, suc, _<_}
 use native.Mathlib.Omega.{arith}
+use lib.Dec.{eqb}
 use lib.ListN.{length, getD}
-use Rattle.lists.specs.Lists.{allOf, anyOf, concatMap, concatMapFrom}
-use Rattle.lists.specs.ListLaws.{and-first, and-second, all-append}
+use borrow.Author.Tests.{eqb-true}
+use Rattle.lists.specs.Lists.{allOf, anyOf, contains, concatMap, concatMapFrom}
+use Rattle.lists.specs.ListLaws.{and-first, and-second, all-append, all-at}
 
 pub all-join : {A : Type 0} (p : A → Bool) (xs ys : List A) → allOf p (xs ++ ys) ≡ (allOf p xs && allOf p ys)
 all-join p [] ys = refl
@@ -57,3 +59,8 @@ pub any-at : {A : Type 0} (p : A → Bool) (d : A) (xs : List A) (i : ℕ) → i
 any-at p d [] i h k = absurd (omega arith)
 any-at p d (x ∷ xs) zero h k = ap (λ (b : Bool). b || anyOf p xs) k
 any-at p d (x ∷ xs) (suc i) h k = ap (λ (b : Bool). p x || b) (any-at p d xs i (omega arith) k) ∙ or-true (p x)
+
+-- what passes of all members passes of a number that is one of them
+pub contained-passes : (p : ℕ → Bool) (xs : List ℕ) (x : ℕ) → allOf p xs ≡ true → contains xs x ≡ true → p x ≡ true
+contained-passes p xs x h k = any-found (eqb x) 0 xs k λ i l e.
+    subst (λ (y : ℕ). p y ≡ true) (sym (eqb-true x (getD xs i 0) e)) (all-at p xs i 0 h l)

@@ -3,14 +3,15 @@ use Prim.Native.Nat.{ℕ}
 use mathlib.Core.Path.{_≡_, refl, sym, ap, _∙_, subst}
 use mathlib.Core.Logic.{_↔_}
 use mathlib.Core.List.{List, [], _∷_}
-use mathlib.Core.Bool.{Bool, true, false, _&&_, _||_}
+use mathlib.Core.Bool.{Bool, true, false, not, _&&_, _||_}
 use mathlib.Core.Option.{Option, none, some}
 use native.Mathlib.Omega.{arith}
 use lib.Dec.{eqb, ltb}
 use lib.ListN.{length}
-use borrow.Author.Tests.{eqb-true}
+use borrow.Author.Tests.{not-true}
 use Rattle.lists.specs.Lists.{allOf, contains}
 use Rattle.lists.specs.ListLaws.{and-first}
+use Rattle.lists.specs.AllLaws.{contained-passes}
 use Rattle.error.specs.declared.LoadErrorKind.{LoadErrorKind}
 use Rattle.error.specs.declared.LoadErrorKind.the-variants.{Decode, BadHostList, ShortSlice, NotLinked}
 use Rattle.error.specs.declared.LoadError.{LoadError}
@@ -35,14 +36,9 @@ early k = contains (1 ∷ 23 ∷ 24 ∷ []) (kindNumber k)
 -- no rule gives them
 pub early-apart : (k : LoadErrorKind) → early k ≡ true → ofRules k ≡ false
 unfolding early ofRules beforeExports judged ofNames
-early-apart k h = go (kindNumber k) (eqb (kindNumber k) 1) (eqb (kindNumber k) 23) (eqb (kindNumber k) 24) refl refl refl h
-  where
-    go : (n : ℕ) (a b c : Bool) → eqb n 1 ≡ a → eqb n 23 ≡ b → eqb n 24 ≡ c → (a || (b || (c || false))) ≡ true →
-        (ltb 1 n && ltb n 23 || eqb n 26 || contains (27 ∷ 28 ∷ []) n) ≡ false
-    go n true b c p q r h = rw (eqb-true n 1 p)
-    go n false true c p q r h = rw (eqb-true n 23 q)
-    go n false false true p q r h = rw (eqb-true n 24 r)
-    go n false false false p q r h = let z : _≡_ {A = ℕ} 0 1 = cc in absurd (omega arith)
+early-apart k h =
+    let given : ℕ → Bool = λ n. ltb 1 n && ltb n 23 || eqb n 26 || contains (27 ∷ 28 ∷ []) n in
+    not-true (given (kindNumber k)) (contained-passes (λ n. not (given n)) (1 ∷ 23 ∷ 24 ∷ []) (kindNumber k) refl h)
 
 -- a refusal for the first fault passes a test that all faults pass
 pub first-passes : (p : LoadError → Bool) (l : ℕ) (es : List LoadError) (e : LoadError) → allOf p es ≡ true → first l es ≡ Refused e → p e ≡ true

@@ -35,6 +35,10 @@ ofExports k = judged k || ofNames k
 unfoldable pub ofRules : LoadErrorKind → Bool
 ofRules k = beforeExports k || ofNames k
 
+pub judged-before : (k : LoadErrorKind) → judged k ≡ true → beforeExports k ≡ true
+unfolding beforeExports
+judged-before k h = ap (λ (b : Bool). b || eqb (kindNumber k) 26) h
+
 -- ── a list of faults, by its parts ──
 
 -- a rule's kind passes, so what comes of the rule does

@@ -29,7 +29,7 @@ use Rattle.code.specs.Code.{codesFaults}
 use Rattle.hooks.specs.Hooks.{hookFunctionFaults, hookImportFaults, hookFaults, hooksFaults, startAtFaults, startFaults, indexFaults}
 use Rattle.hooks.specs.Hooks.{nameFaults, exportFaults, exportsFaults}
 use Rattle.load.specs.Load.{moduleFaults}
-use Rattle.load.specs.Kinds.{kindNumber, judged, beforeExports, ofNames, ofExports, ofRules, parts}
+use Rattle.load.specs.Kinds.{kindNumber, judged, beforeExports, ofNames, ofExports, ofRules, judged-before, parts}
 use Rattle.load.specs.CodeKinds.{codes-kinds}
 
 -- each law, named for its definition: the faults of one rule, or of one part of it, are of kinds 2 to 22
@@ -195,9 +195,8 @@ walk-kinds most m =
     all-map (λ e. beforeExports (e .kind)) beforeExports inModule (λ k. refl) missed ∙ simp parts
 
 -- 2 to 22 are among the kinds before exports
-judged-before : (es : List LoadError) → allOf (λ e. judged (e .kind)) es ≡ true → allOf (λ e. beforeExports (e .kind)) es ≡ true
-unfolding beforeExports
-judged-before es h = all-imp (λ e. judged (e .kind)) (λ e. beforeExports (e .kind)) (λ e k. rw k) es h
+all-before : (es : List LoadError) → allOf (λ e. judged (e .kind)) es ≡ true → allOf (λ e. beforeExports (e .kind)) es ≡ true
+all-before es h = all-imp (λ e. judged (e .kind)) (λ e. beforeExports (e .kind)) (λ e k. judged-before (e .kind) k) es h
 
 -- all rules before exports
 abbrev pub earlierFaults : ℕ → List HostFn → Module → List LoadError
@@ -210,7 +209,7 @@ earlier-kinds most hosts m =
     simp (
       all-join,
       walk-kinds,
-      judged-before,
+      all-before,
       types-kinds,
       parents-kinds,
       consts-kinds,

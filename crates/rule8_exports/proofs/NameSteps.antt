@@ -1,47 +1,34 @@
 -- The name of an export judged by its mark, and then set.
 use Prim.Native.Nat.{ℕ, _+_, _*_, _≤_, _<_}
-use mathlib.Core.Path.{_≡_, refl, sym, ap, ap₂, _∙_}
-use mathlib.Core.List.{List, _++_}
-use mathlib.Core.Bool.{Bool, true, false, not}
+use mathlib.Core.Path.{_≡_, sym, ap, _∙_}
+use mathlib.Core.List.{List}
+use mathlib.Core.Bool.{true}
 use native.Mathlib.Omega.{arith}
-use lib.Dec.{ltb}
 use lib.ListN.{length, getD, set}
-use borrow.Author.Tests.{lt-ltb, le-ltb}
+use borrow.Author.Tests.{lt-ltb}
 use Rattle.blocks.specs.Blocks.{words}
 use Rattle.blocks.specs.Frame.{firstWords}
 use Rattle.error.specs.declared.LoadErrorKind.{LoadErrorKind}
 use Rattle.error.specs.declared.LoadErrorKind.the-variants.{ExportNameOutOfRange, DuplicateExport}
-use Rattle.error.specs.declared.Verdict.{Verdict}
 use Rattle.error.specs.declared.Verdict.the-variants.{Holds, Broken}
-use Rattle.error.specs.Answer.{unless, stringNumber}
+use Rattle.error.specs.Answer.{stringNumber}
 use Rattle.error.specs.Verdict.{verdictOf}
 use Rattle.sheet.specs.Module.{Module}
 use Rattle.canon.specs.Canon.{canonString}
-use Rattle.hooks.specs.Hooks.{exportAt, isDuplicate, nameFaults}
+use Rattle.hooks.specs.Hooks.{exportAt, nameFaults}
+use Rattle.hooks.specs.ExportLaws.{name-absent, name-taken, name-free}
 use Rattle.region.specs.RegionLaws.{frame-set}
 use Rattle.open_layout.specs.Opened.{moduleIn}
 use Rattle.open_sheet.specs.declared.Opened.{Opened}
 use Rattle.open_sheet.specs.Ready.{Ready, Above, posAt}
 use Rattle.open_sheet.specs.ReadyLaws.{count-strings, strings-inside, string-canon}
 use Rattle.rule8_exports.specs.Exports.{hasName, canonName, NamesMarked, MarkedThen, Naming}
-use Rattle.rule8_exports.specs.MarkLaws.{mark-room, mark-clear, mark-set, marks-next}
+use Rattle.rule8_exports.specs.MarkLaws.{name-in, mark-room, mark-clear, mark-set, marks-next}
 use Rattle.rule8_exports.proofs.ExportSteps.{export-name}
 
 -- nothing is to be said of the marks after a name that is refused
 pub refused-marks : (k : LoadErrorKind) (m : Module) (i : ℕ) (w : List ℕ) (base : ℕ) → MarkedThen (Broken k) m i w base
 refused-marks k m i w base = record { holds = λ e. let z : _≡_ {A = ℕ} 0 1 = cc in absurd (omega arith) }
-
--- by its two tests
-tested : (m : Module) (i n : ℕ) → exportAt m i .name ≡ n → (p q : Bool) {r : Verdict} → hasName m (exportAt m i) ≡ p →
-    isDuplicate m i (exportAt m i) ≡ q →
-    r ≡ verdictOf (unless p (ExportNameOutOfRange (stringNumber n)) ++ unless (not q) (DuplicateExport i)) →
-    r ≡ verdictOf (nameFaults m i (exportAt m i))
-unfolding nameFaults hasName
-tested m i n e p q f g k =
-    let faults : Bool → Bool → ℕ → List LoadErrorKind =
-    λ p q n. unless p (ExportNameOutOfRange (stringNumber n)) ++ unless (not q) (DuplicateExport i) in
-    k ∙ ap₂ (λ p q. verdictOf (faults p q n)) (sym f) (sym g)
-    ∙ ap (λ n. verdictOf (faults (ltb (exportAt m i .name) (length (m .strings))) (isDuplicate m i (exportAt m i)) n)) (sym e)
 
 -- ── its range ──
 
@@ -56,12 +43,11 @@ module _ (b w : List ℕ) (o : Opened) (x : Ready (firstWords b (o .layout .word
 
     pub name-outside : o .counts .strings ≤ n →
         Broken (ExportNameOutOfRange (stringNumber n)) ≡ verdictOf (nameFaults (moduleIn ws) i (exportAt (moduleIn ws) i))
-    unfolding verdictOf hasName
+    unfolding verdictOf
     name-outside l =
         let e = exportAt (moduleIn ws) i in
-        let n = length (moduleIn ws .strings) in
-        tested (moduleIn ws) i _ name-is false (isDuplicate (moduleIn ws) i e)
-        (le-ltb (e .name) n (omega (arith, name-is, count-strings ws o (x .opens)))) refl refl
+        ap (λ (k : ℕ). Broken (ExportNameOutOfRange (stringNumber k))) (sym name-is)
+        ∙ sym (ap verdictOf (name-absent (moduleIn ws) i e (omega (arith, name-is, count-strings ws o (x .opens)))))
 
     pub name-inside : n < o .counts .strings → NamesMarked (moduleIn ws) i w (6 * o .layout .words) → Naming ws w o i n
     name-inside l y = record {
@@ -101,14 +87,20 @@ module _ (ws w : List ℕ) (o : Opened) (i n : ℕ) (x : Naming ws w o i n) wher
     word-is = ap (λ (k : ℕ). getD w (base + k) 0) (sym canon-is)
 
     module _ {t : ℕ} (e : t ≡ getD w (base + c) 0) where
+      string-named : exportAt m i .name < length (m .strings)
+      string-named = name-in m (exportAt m i) has
+
       pub name-again : (t ≡ 0 → ⊥) → Broken (DuplicateExport i) ≡ verdictOf (nameFaults m i (exportAt m i))
       unfolding verdictOf
-      name-again z = tested m i n (x .name) true true has (mark-set m i w base (x .marked) (exportAt m i) has (λ k. z (e ∙ sym word-is
-          ∙ k))) refl
+      name-again z =
+          let d = mark-set m i w base (x .marked) (exportAt m i) has (λ k. z (e ∙ sym word-is ∙ k)) in
+          sym (ap verdictOf (name-taken m i (exportAt m i) string-named d))
 
       pub name-new : t ≡ 0 → Holds ≡ verdictOf (nameFaults m i (exportAt m i))
       unfolding verdictOf
-      name-new z = tested m i n (x .name) true false has (mark-clear m i w base (x .marked) (exportAt m i) has (word-is ∙ sym e ∙ z)) refl
+      name-new z =
+          let d = mark-clear m i w base (x .marked) (exportAt m i) has (word-is ∙ sym e ∙ z) in
+          sym (ap verdictOf (name-free m i (exportAt m i) string-named d))
 
     module _ (v : List ℕ) (q : v ≡ set w (base + c) 1) where
       pub name-marked : MarkedThen Holds m (i + 1) v base
