@@ -1,9 +1,9 @@
 """What tests/readme asks of docs/FORMAT.md: its examples are what the programs give, its tables are those of the definitions, of README.md
-and of the C header; and that the limits of editions are the same everywhere."""
+and of the C header; and that what editions decide is the same everywhere."""
 import os, re, subprocess, sys, tempfile
 from tally import ROOT, compare
 sys.path.insert(0, ROOT + '/tools')
-from sheetform.blocks import EDITIONS, MOST_ON_CHAIN
+from sheetform.blocks import EDITIONS, MAY_LEAVE_OUT, MOST_ON_CHAIN
 
 FORMAT = 'docs/FORMAT.md'
 
@@ -165,6 +165,28 @@ def reported():
     r = subprocess.run([ROOT + '/target/bin/report', 'root-last', 'none'], cwd=stored, stdout=subprocess.PIPE, text=True)
     compare(f'{FORMAT}: the lines of the report', re.findall('`(.*?)`', shown), r.stdout.splitlines())
 
+# a call of an import with a mandatory parameter and an optional one
+CALL = '''sheet edition {}
+type Asked func(dyn, dyn)
+type Started func()
+import ask "desk" "price" Asked
+  parameters -, optional -
+function caller Started
+  registers dyn, dyn, dyn, dyn
+    call-import r0 ask argc={}
+    ret-void
+'''
+
+# what "What the own rules ask" says of so many arguments is what the program says
+def arity():
+    kind = {}
+    for edition, given in [(edition, given) for edition in (1, 2) for given in range(4)]:
+        numbers = linked(sheet_of(CALL.format(edition, given)), data('samples/hosts'))[:6]
+        kind[edition, given] = ' '.join(map(str, numbers[:4])) if numbers[0] else 'holds'
+    compare('one or two arguments', [kind[2, 1], kind[2, 2], kind[1, 2]], ['holds'] * 3)
+    sentence = f'D = 0 is `{kind[2, 0]}`, 1 and 2 hold, and 3 is `{kind[2, 3]}`; in edition 1 D = 1 is `{kind[1, 1]}`.'
+    compare(f'{FORMAT}: {sentence}', sentence in section('What the own rules ask'), True)
+
 # ── tables ──
 
 KINDS = dict(Unused='–', Reg='register', Target='target', Const='constant', Func='function', Import='import', Global='global', Table='table',
@@ -194,18 +216,25 @@ def hooks():
     compare(f'{FORMAT}: the hook shapes', found, defined)
     compare(f'{FORMAT}: hooks', len(found), 31)
 
-# those of the tools are the definition's, and the bindings name them
+# those of the tools are the definition's; the bindings name all that the edition decides, and FORMAT.md cites it
 def editions():
     source = text('crates/sheet/specs/Editions.antt')
     newest = re.search(r'^newestEdition = (\d+)$', source, re.M).group(1)
     second, first = re.search(r'^mostOnChain edition = cond \(eqb edition 2\) (\d+) (\d+)$', source, re.M).groups()
     compare('the editions of a sheet', EDITIONS, list(range(1, int(newest) + 1)))
     compare('the most types on a chain', MOST_ON_CHAIN, {1: int(first), 2: int(second)})
-    reads = re.search(r'^readsExportNames edition = eqb edition (\d+)$', source, re.M).group(1)
+    alone = [re.search(rf'^{name} edition = eqb edition (\d+)$', source, re.M).group(1) for name in ('readsExportNames', 'mayLeaveOut')]
+    compare('the editions in which arguments may be left out', MAY_LEAVE_OUT, [int(alone[1])])
+    sentences = (r'at most (\d+) types in edition 1 and (\d+) in edition 2\. The names of exports are read in edition (\d+) alone: [^.]*\. '
+                 r'The optional arguments of an import may be left out in edition (\d+) alone\. Nothing else depends on the edition\.')
     for path in ('bindings/c/paqlluri.h', 'bindings/rust/src/lib.rs'):
-        said = re.findall(r'at most (\d+) types in edition 1 and (\d+) in edition 2\. The names of exports are read in edition (\d+) alone',
-                          re.sub(r'\n(///| \*)', '', text(path)))
-        compare(f'{path}: what the edition decides', said, [(first, second, reads)])
+        said = re.findall(sentences, re.sub(r'\n(///| \*)', '', text(path)))
+        compare(f'{path}: what the edition decides', said, [(first, second, *alone)])
+    decided = re.findall(r'^unfoldable pub (\w+) : ℕ →', source, re.M)
+    differ = r'The editions differ in (\w+) things: .*\(`sheet/specs/Editions`, (.*)\)'
+    count, cited = re.search(differ, section('Edition and length')).groups()
+    compare(f'{FORMAT}: what the edition decides', re.findall(r'`(\w+)`', cited), decided)
+    compare(f'{FORMAT}: how many things that is', count, ['one', 'two', 'three', 'four'][len(decided) - 1])
 
 def snake(name):
     return re.sub(r'(?<!^)(?=[A-Z])', '_', name).upper()

@@ -16,7 +16,7 @@ from imports import IMPORT, ROOT, cited, closure, contract, declared, edges, fil
 # what is claimed: the calls and their answers, the demands, sizes, lengths, nearest families and reports, and two claims of their own
 STATEMENTS = [
     'load/specs/Load', 'descends/specs/Descends', 'error/specs/Answer', 'calls/specs/Calls', 'calls/specs/EditionCalls',
-    'calls/specs/ExportCalls', 'law_forest/specs/Limits', 'law_rows/specs/Rows', 'utf8/specs/Grammar',
+    'calls/specs/ExportCalls', 'calls/specs/ArgumentCalls', 'law_forest/specs/Limits', 'law_rows/specs/Rows', 'utf8/specs/Grammar',
     'descends/specs/Sizes', 'descends/specs/Lengths', 'descends/specs/Nearest', 'families/specs/Counted', 'report_lines/specs/Report',
     'family_calls/specs/FamilyCalls', 'family_calls/specs/NearestCalls', 'family_calls/specs/LengthCalls',
 ]

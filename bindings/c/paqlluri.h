@@ -35,7 +35,7 @@ extern "C" {
  * A sheet and a host list have 1 to 4,096 blocks of 512 bytes, each with 127 words and a check word. The first word is
  * the edition: 1 or 2 of a sheet, 1 of a host list. A chain of parents has at most 256 types in edition 1 and 64 in
  * edition 2. The names of exports are read in edition 2 alone: each is a string of the sheet, and no two have the same
- * bytes. Nothing else depends on the edition.
+ * bytes. The optional arguments of an import may be left out in edition 2 alone. Nothing else depends on the edition.
  */
 #define PAQLLURI_BLOCK_BYTES 512
 #define PAQLLURI_BLOCK_WORDS 127
@@ -87,7 +87,7 @@ enum paqlluri_kind {
     PAQLLURI_PARAM_MISMATCH = 5,            /* the registers do not begin with the parameters */
     PAQLLURI_EMPTY_CODE = 6,                /* a function has no code */
     PAQLLURI_FALLS_THROUGH = 7,             /* the last instruction falls through */
-    PAQLLURI_ARITY_MISMATCH = 8,            /* wrong number of arguments; number: expected, second: found */
+    PAQLLURI_ARITY_MISMATCH = 8,            /* wrong number of arguments; number: the fewest or the most expected, second: found */
     PAQLLURI_CALLEE_HAS_CAPTURES = 9,       /* a function with captures is called directly, or is the start */
     PAQLLURI_PROMOTE_NOT_DYNAMIC = 10,      /* Promote into what is not dyn */
     PAQLLURI_WRONG_TYPE_KIND = 11,          /* a type of the wrong kind; word: the kind that is wanted */

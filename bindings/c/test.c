@@ -1,6 +1,6 @@
 /*
  * What the header says of pointers, lengths and lent words, tried on the empty sheet, of families on samples/lifts.sheet,
- * and of editions on chains of types and on names of exports. Prints nothing where it holds.
+ * and of editions on chains of types, on names of exports and on numbers of arguments. Prints nothing where it holds.
  *
  *     test LIFTS HOSTS
  */
@@ -367,6 +367,34 @@ static void editions(const uint8_t *sheet, const uint8_t *hosts) {
     expect("an empty sheet of edition 2", answer[PAQLLURI_KIND] == PAQLLURI_ACCEPTED && answer[PAQLLURI_NUMBER] == 49 && table[0] == 2);
 }
 
+/* Words behind one another, in one block. */
+struct words {
+    uint8_t bytes[PAQLLURI_BLOCK_BYTES];
+    uint32_t count;
+};
+
+static void begin(struct words *words, uint32_t edition) {
+    memset(words->bytes, 0, sizeof words->bytes);
+    put(at(words->bytes, 0), edition);
+    words->count = 2;
+}
+
+static void add(struct words *words, const uint32_t *more, size_t count) {
+    size_t i;
+    for (i = 0; i < count; i++)
+        put(at(words->bytes, words->count++), more[i]);
+}
+
+static void end(struct words *words) {
+    put(at(words->bytes, 1), words->count);
+    put(words->bytes + PAQLLURI_BLOCK_BYTES - 4, check_word(words->bytes, 0));
+}
+
+#define ADD(words, more) add(words, more, sizeof(more) / sizeof *(more))
+
+/* Words that are enough for a sheet of one block. */
+#define ROOM PAQLLURI_WORDS(PAQLLURI_BLOCK_BYTES)
+
 /* The words between N and the exports. */
 static const uint32_t before_exports[] = {
     4, 1, 'a', 1, 'a', 1, 'b', 0,          /* strings: "a" twice, "b" and "" */
@@ -377,41 +405,35 @@ static const uint32_t before_exports[] = {
     0, 0                                   /* no hooks, no start function */
 };
 
-#define EXPORTS_AT (2 + sizeof before_exports / sizeof *before_exports)
-#define EXPORTS_WORDS PAQLLURI_WORDS(PAQLLURI_BLOCK_BYTES)
-
 /* Exports of kind, name and index, and what edition 2 gives them. */
 struct exports {
     const char *what;
     uint32_t count, exports[3][3], kind, number;
 };
 
-/* A sheet of one block with these exports. */
-static void exporting(uint8_t *bytes, uint32_t edition, const struct exports *given) {
+/* A sheet with these exports. */
+static void exporting(struct words *words, uint32_t edition, const struct exports *given) {
     size_t i;
-    memset(bytes, 0, PAQLLURI_BLOCK_BYTES);
-    put(at(bytes, 0), edition);
-    put(at(bytes, 1), (uint32_t)EXPORTS_AT + 1 + 3 * given->count);
-    for (i = 2; i < EXPORTS_AT; i++)
-        put(at(bytes, i), before_exports[i - 2]);
-    put(at(bytes, EXPORTS_AT), given->count);
-    for (i = 0; i < 3 * given->count; i++)
-        put(at(bytes, EXPORTS_AT + 1 + i), given->exports[i / 3][i % 3]);
-    put(bytes + PAQLLURI_BLOCK_BYTES - 4, check_word(bytes, 0));
+    begin(words, edition);
+    ADD(words, before_exports);
+    add(words, &given->count, 1);
+    for (i = 0; i < given->count; i++)
+        ADD(words, given->exports[i]);
+    end(words);
 }
 
 /* Whether load gives them this kind and number; the words of kind 3 are types here. */
 static int exported(const uint8_t *hosts, uint32_t edition, const struct exports *given, uint32_t kind, uint32_t number) {
-    static uint8_t bytes[PAQLLURI_BLOCK_BYTES];
-    static uint32_t linked[EXPORTS_WORDS], room[EXPORTS_WORDS];
+    static uint32_t linked[ROOM], room[ROOM];
+    struct words sheet;
     const uint32_t word = kind == PAQLLURI_OUT_OF_RANGE ? PAQLLURI_TYPE : 0;
     size_t i;
-    exporting(bytes, edition, given);
-    for (i = 0; i < EXPORTS_WORDS; i++)
+    exporting(&sheet, edition, given);
+    for (i = 0; i < ROOM; i++)
         linked[i] = room[i] = BEFORE;
-    paqlluri_load(bytes, sizeof bytes, hosts, PAQLLURI_BLOCK_BYTES, linked, EXPORTS_WORDS, room, EXPORTS_WORDS, answer);
+    paqlluri_load(sheet.bytes, sizeof sheet.bytes, hosts, PAQLLURI_BLOCK_BYTES, linked, ROOM, room, ROOM, answer);
     return answer[PAQLLURI_KIND] == kind && answer[PAQLLURI_WORD] == word && answer[PAQLLURI_NUMBER] == number &&
-           all(answer, 3, PAQLLURI_NUMBERS, 0) && linked[0] == (kind == PAQLLURI_ACCEPTED ? 2 : BEFORE) && all(room, 0, EXPORTS_WORDS, 0);
+           all(answer, 3, PAQLLURI_NUMBERS, 0) && linked[0] == (kind == PAQLLURI_ACCEPTED ? 2 : BEFORE) && all(room, 0, ROOM, 0);
 }
 
 #define TABLE_WORDS 65
@@ -442,6 +464,84 @@ static void exports(const uint8_t *hosts) {
     }
 }
 
+enum { TAIL_CALL = 7, CALL = 15, CORO_NEW = 20, CALL_IMPORT = 21 };
+
+/* A callee of two parameters, with a list of these flags or none, and how many arguments it is given. */
+struct arguments {
+    const char *what;
+    int listed;
+    uint32_t flags[2], given, second, first; /* the limit that is broken in edition 2 and in edition 1 */
+};
+
+/* No limit is broken. */
+#define TAKEN UINT32_MAX
+
+/* One empty string, a type of the callees and one of their caller, and an import up to its list. */
+static const uint32_t before_import_list[] = {1, 0, 2, 0, 2, 12, 12, 0, 0, 0, 0, 0, 1, 0, 0, 0};
+/* No globals; two functions, the first up to its list. */
+static const uint32_t before_function_list[] = {0, 2, 0, 2, 12, 12};
+/* It returns; the second up to its code, of two instructions. */
+static const uint32_t before_call[] = {0, 0, 0, 0, 0, 0, 1, 1, 0, 1, 5, 12, 12, 12, 12, 12, 0, 0, 0, 0, 0, 0, 0, 2};
+/* It returns too; no hooks, no start function, no exports. */
+static const uint32_t after_call[] = {1, 0, 0, 0, 0};
+
+/* Function 1 calls import 0 or function 0, which have the same parameters. */
+static void calling(struct words *words, uint32_t edition, uint32_t code, const struct arguments *row) {
+    const uint32_t list[] = {1, 2, row->flags[0], 0, row->flags[1], 0}, none = 0, call[] = {code | row->given << 8, 0};
+    const uint32_t *params = row->listed ? list : &none;
+    const size_t count = row->listed ? sizeof list / sizeof *list : 1;
+    begin(words, edition);
+    ADD(words, before_import_list);
+    add(words, params, count);
+    ADD(words, before_function_list);
+    add(words, params, count);
+    ADD(words, before_call);
+    ADD(words, call);
+    ADD(words, after_call);
+    end(words);
+}
+
+/* Whether load takes the call, or refuses it by that limit, at instruction 0 of function 1. */
+static int called(uint32_t edition, uint32_t code, const struct arguments *row, uint32_t limit) {
+    static const uint32_t host[] = {1, 0, 0, 0}; /* one, of two empty names */
+    static uint32_t linked[ROOM], room[ROOM];
+    struct words sheet, hosts;
+    calling(&sheet, edition, code, row);
+    begin(&hosts, 1);
+    ADD(&hosts, host);
+    end(&hosts);
+    linked[0] = BEFORE;
+    paqlluri_load(sheet.bytes, sizeof sheet.bytes, hosts.bytes, sizeof hosts.bytes, linked, ROOM, room, ROOM, answer);
+    if (limit == TAKEN)
+        return answer[PAQLLURI_KIND] == PAQLLURI_ACCEPTED && linked[0] == 2;
+    return answer[PAQLLURI_KIND] == PAQLLURI_ARITY_MISMATCH && answer[PAQLLURI_WORD] == 0 && answer[PAQLLURI_NUMBER] == limit &&
+           answer[PAQLLURI_SECOND] == row->given && answer[PAQLLURI_FUNCTION] == 2 && answer[PAQLLURI_POSITION] == 1 && linked[0] == BEFORE;
+}
+
+/* Optional arguments are left out of a call of an import in edition 2 alone, and never of a call of a function. */
+static void arguments(void) {
+    static const struct arguments rows[] = {
+        {"none of two, one optional", 1, {0, 2}, 0, 1, 2},
+        {"the optional one left out", 1, {0, 2}, 1, TAKEN, 2},
+        {"both", 1, {0, 2}, 2, TAKEN, TAKEN},
+        {"one too many", 1, {0, 2}, 3, 2, 2},
+        {"both left out", 1, {2, 3}, 0, TAKEN, 2},
+        {"two too many", 1, {2, 3}, 4, 2, 2},
+        {"by reference is not optional", 1, {0, 1}, 1, 2, 2},
+        {"by reference and optional", 1, {1, 3}, 1, TAKEN, 2},
+        {"none optional", 1, {0, 0}, 1, 2, 2},
+        {"no list", 0, {0, 0}, 1, 2, 2},
+        {"no list, both", 0, {0, 0}, 2, TAKEN, TAKEN},
+    };
+    size_t i;
+    for (i = 0; i < sizeof rows / sizeof *rows; i++) {
+        const struct arguments *row = rows + i;
+        expect(row->what, called(2, CALL_IMPORT, row, row->second) && called(1, CALL_IMPORT, row, row->first));
+        expect(row->what, called(2, CALL, row, row->first) && called(1, CALL, row, row->first));
+        expect(row->what, called(2, TAIL_CALL, row, row->first) && called(2, CORO_NEW, row, row->first));
+    }
+}
+
 int main(int argc, char **argv) {
     static uint8_t sheet_room[PAQLLURI_BLOCK_BYTES + 1], hosts_room[PAQLLURI_BLOCK_BYTES + 1];
     const uint8_t *sheet = block(sheet_room, 1, 11, 56), *hosts = block(hosts_room, 1, 3, 16);
@@ -454,6 +554,7 @@ int main(int argc, char **argv) {
     loads(sheet, hosts);
     editions(sheet, hosts);
     exports(hosts);
+    arguments();
     families(sheet, argv[1], argv[2]);
     return wrong;
 }

@@ -5,10 +5,11 @@ Sizes are counted from declared parents, type by type and chain by chain, apart 
 accepted sheets are by hand, as the terms show; those of samples are the rows of samples/README.md. The program takes at most 16 blocks.
 """
 import os, re, shutil
-from answers import BROKEN, DEEP, EXPORTED, EXPORT_NAME, HOOK, PARENT, TYPE, line
+from answers import ARITY, BROKEN, DEEP, EXPORTED, EXPORT_NAME, HOOK, PARENT, TYPE, at, line
 from samples import SAMPLES
-from sheets import COROUTINE, CRATES, DYN, I64, MOST, STR, array, cell, fn, func, iter_, map_, parts, ref, sheet, struct
-from trial import ARRAY, CELL, COROUTINE_TYPE, FN, ITER, MAP, accepted, struct_type
+from sheets import (COROUTINE, CRATES, DYN, I64, MOST, STR, array, cell, fn, func, import_, inst, iter_, map_, param_list, parts, ref,
+                    sheet, struct)
+from trial import ARRAY, CELL, COROUTINE_TYPE, FN, FUNC, IMPORT, ITER, MAP, accepted, struct_type
 
 HERE = CRATES + '/report'
 
@@ -117,6 +118,18 @@ def exported(name, expected, *names):
 exported('named', structs(3), 1, 2)
 exported('named-past-the-strings', EXPORT_NAME + [3], 2, 3, 1)
 exported('named-alike', EXPORTED + [2], 0, 2, 1)
+# a family beside an import with one mandatory parameter of two, called with so many arguments
+def called(name, second, first, d):
+    family = [struct(), struct(parent=0), fn(), fn([I64, I64])]
+    given = dict(strings=['desk', 'price'], imports=[import_(3, params=param_list((0, 0), (2, 0)))],
+                 funcs=[func(2, [I64] * 4, code=[inst(21, d=d), inst(1)])])
+    for edition, of, expected in ((2, '-of-edition-2', second), (1, '', first)):
+        expected = at(ARITY + expected, 0, 0) if expected else structs(2, 2 * FN, IMPORT, FUNC, 4)
+        case(f'arguments-{name}{of}', expected, family, edition=edition, **given)
+
+called('none', [1, 0], [2, 0], 0)
+called('mandatory', None, [2, 1], 1)
+called('all', None, None, 2)
 case('hook-of-another-shape', HOOK + [5], [struct(), fn()], hooks=[(5, 0, 0)], funcs=[func(1)])
 file('no-bytes', b'')
 file('text', b'any bytes may come\n')

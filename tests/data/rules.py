@@ -5,7 +5,7 @@ A case is the parts of a sheet and its six numbers, those not given being 0; by 
 group of rules.
 The program prints 0 for the length of an accepted sheet. It takes at most 16 blocks.
 """
-import code, ends, front, instructions, records
+import arguments, code, ends, front, instructions, records
 from answers import BROKEN, HOLDS, collection, line
 from sheets import COROUTINE, MOST, array, host_list, ref, write
 
@@ -21,5 +21,5 @@ case('sixteen-blocks', HOLDS, types=[COROUTINE] * 2021)
 case('seventeen-blocks', BROKEN, types=[COROUTINE] * 2022)
 
 if __name__ == '__main__':
-    groups = [CASES, front.CASES, records.CASES, code.CASES, instructions.CASES, ends.CASES]
+    groups = [CASES, front.CASES, records.CASES, code.CASES, instructions.CASES, arguments.CASES, ends.CASES]
     write('judge', sum(groups, []), line(BROKEN), host_list(records.HOSTS))

@@ -4,7 +4,7 @@
 By docs/FORMAT.md, apart from the definitions; the lengths of tables are counted by hand, as the terms show. The program takes at most
 16 blocks.
 """
-from answers import BROKEN, DEEP, EXPORTED, EXPORT_NAME, REGISTER, UNRESOLVED, at, collection, line
+from answers import ARITY, BROKEN, DEEP, EXPORTED, EXPORT_NAME, REGISTER, UNRESOLVED, at, collection, line
 from sheets import (COROUTINE, DYN, I64, STR, array, cell, entries, fn, func, host_list, import_, inst, items, iter_, map_, param_list, ref, struct, text, write)
 
 CASES, case = collection()
@@ -98,6 +98,14 @@ called('call-window-past-the-frame', at(REGISTER + [5], 0, 0), 3)
 # ── imports, globals, constants, hooks, start, exports ──
 MF = dict(strings=['m', 'f', 'g'])
 case('imports', accepted(2 * FN, 2 * IMPORT), types=[fn(), fn([DYN], [DYN])], imports=[import_(params=param_list()), import_(1, name=2)], **MF)
+# an import with one mandatory parameter of two, called with so many arguments: the second edition takes one, the first two alone
+CALLED = accepted(2 * FN, IMPORT, FUNC, 4)
+for name, d, second, first in (('none', 0, [1, 0], [2, 0]), ('mandatory', 1, None, [2, 1]), ('all', 2, None, None),
+                               ('one-more', 3, [2, 3], [2, 3])):
+    OPTIONAL = dict(types=[fn(), fn([I64, I64])], imports=[import_(1, params=param_list((0, 0), (2, 0)))],
+                    funcs=[func(regs=[I64] * 4, code=[inst(21, d=d), inst(1)])], **MF)
+    case(f'arguments-{name}', at(ARITY + first, 0, 0) if first else CALLED, **OPTIONAL)
+    case(f'arguments-{name}-of-edition-2', at(ARITY + second, 0, 0) if second else CALLED, edition=2, **OPTIONAL)
 case('import-unresolved', UNRESOLVED + [1, 2], types=[fn()], imports=[import_(module=1, name=2)], **MF)
 case('globals', accepted(CELL, 4, 3), types=[cell(DYN)], globals_=[(I64, 0), (STR, 0), (DYN, 0), (ref(0), 0)])
 case('constants', accepted(2), strings=['t'], consts=[[0, 7, 8], text(0), items(0, 1), entries((0, 2), (1, 1)), items()], globals_=[(DYN, 4)])

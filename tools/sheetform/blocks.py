@@ -7,6 +7,8 @@ MOST_WORDS = PER_BLOCK * MOST_BLOCKS
 TOP = 4294967295
 # by the edition of a sheet, the most types on a chain of parents
 MOST_ON_CHAIN = {1: 256, 2: 64}
+# the editions in which the optional arguments of an import may be left out
+MAY_LEAVE_OUT = [2]
 # what word 0 of a sheet can be, and of a host list
 EDITIONS, HOST_EDITIONS = list(MOST_ON_CHAIN), [1]
 

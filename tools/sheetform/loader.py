@@ -1,6 +1,7 @@
 """Runs the loader on a sheet and a host list, and says what the six numbers mean. The words are README.md's."""
 import signal, subprocess, tempfile
 from . import native
+from .arity import wrong_call
 from .blocks import MOST_ON_CHAIN
 from .codes import EXPORTS
 from .families import plural, shortened
@@ -133,15 +134,16 @@ def namesakes(module, later):
     numbers = f'string {names[first]}' if names[first] == names[later] else f'strings {names[first]} and {names[later]}'
     return f'{exported(module, first)} and {exported(module, later)} are both named {shortened(texts[later])!r} ({numbers})'
 
-# what word, number and second say of that kind
-def details(sheet, kind, word, number, second):
+# what word, number and second say of their kind
+def details(sheet, numbers):
+    kind, word, number, second, *_ = numbers
     if kind == 2:
         texts = read(sheet, SHEET).strings
         return f': module {texts[number]!r} (string {number}), name {texts[second]!r} (string {second})'
     if kind == 3:
         return f': {OUT_OF[word - 1]} {number}'
     if kind == 8:
-        return f': {number} expected, {second} found'
+        return f': {wrong_call(sheet, numbers) or f"{number} expected, {second} found"}'
     if kind == 11:
         return f': {WANTED[word - 1]} is wanted'
     if kind in (27, 28):
@@ -149,10 +151,10 @@ def details(sheet, kind, word, number, second):
     return f': hook {number}' if kind == 19 else ''
 
 def meaning(sheet, numbers):
-    kind, word, number, second, function, position = numbers
+    kind, _, number, _, function, position = numbers
     if kind == 0:
         return f'accepted; the linked table has {number} words'
-    said = f'refused, kind {kind}: {words_of(sheet, kind)}{details(sheet, kind, word, number, second)}'
+    said = f'refused, kind {kind}: {words_of(sheet, kind)}{details(sheet, numbers)}'
     if function:
         said += f'\nin function {function - 1}' + (f', instruction {position - 1}' if position else '')
     return said

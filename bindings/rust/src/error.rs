@@ -1,5 +1,6 @@
 //! Why a sheet was refused.
 
+use core::cmp::Ordering;
 use core::error::Error;
 use core::fmt;
 
@@ -117,7 +118,8 @@ pub enum LoadErrorKind {
     FallsThrough,
     /// 8: wrong number of arguments.
     ArityMismatch {
-        /// How many the callee takes.
+        /// How many the callee takes; where optional arguments may be left out the fewest if too few are found,
+        /// and the most if too many are.
         expected: u32,
         /// How many the instruction gives.
         found: u32,
@@ -303,7 +305,12 @@ impl fmt::Display for LoadErrorKind {
             }
             Self::OutOfRange { what, index } => write!(f, ": {what} {index}"),
             Self::ArityMismatch { expected, found } => {
-                write!(f, ": {expected} expected, {found} found")
+                let which = match found.cmp(expected) {
+                    Ordering::Less => "too few, ",
+                    Ordering::Equal => "",
+                    Ordering::Greater => "too many, ",
+                };
+                write!(f, ": {which}{expected} expected, {found} found")
             }
             Self::WrongTypeKind { expected } => write!(f, ": {expected} is wanted"),
             Self::BadHook(hook) => write!(f, ": hook {hook}"),

@@ -86,7 +86,8 @@ pub const MOST_WORDS: usize = table_words(MOST_BLOCKS * BLOCK);
 ///
 /// The first word of a sheet is its edition, 1 or 2, that of a host list 1. A chain of parents has at most
 /// 256 types in edition 1 and 64 in edition 2. The names of exports are read in edition 2 alone: each is a
-/// string of the sheet, and no two have the same bytes. Nothing else depends on the edition.
+/// string of the sheet, and no two have the same bytes. The optional arguments of an import may be left out
+/// in edition 2 alone. Nothing else depends on the edition.
 ///
 /// Accepted: the first words of `table` are the linked table, and those after them are as before.
 /// Refused: no word of `table` is changed. `work` is all zero after the call, except that

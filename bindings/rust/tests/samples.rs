@@ -1,8 +1,8 @@
-//! The library on the samples, on chains and exports of both editions, and on wrong words.
+//! The library on the samples, on chains, exports and calls of both editions, and on wrong words.
 
 use paqlluri::{
-    chain_length, count_structs, load, nearest, raw, table_words, work_words, BrokenLayout, Linked,
-    LoadError, LoadErrorKind, NotLinked, StrId, TypeId, What, MOST_WORDS,
+    chain_length, count_structs, load, nearest, raw, table_words, work_words, BrokenLayout, FuncId,
+    Linked, LoadError, LoadErrorKind, NotLinked, StrId, TypeId, What, MOST_WORDS,
 };
 
 const EMPTY: &[u8] = include_bytes!("../../../samples/empty.sheet");
@@ -12,6 +12,9 @@ const LONGEST_CHAIN: &[u8] = include_bytes!("../../../samples/longest-chain.shee
 const CHAIN_TOO_LONG: &[u8] = include_bytes!("../../../samples/chain-too-long.sheet");
 const EXPORT_NAME_MISSING: &[u8] = include_bytes!("../../../samples/export-name-missing.sheet");
 const EXPORT_TWICE: &[u8] = include_bytes!("../../../samples/export-twice.sheet");
+const SURCHARGE_LEFT_OUT: &[u8] = include_bytes!("../../../samples/surcharge-left-out.sheet");
+const SURCHARGE_MISSING: &[u8] = include_bytes!("../../../samples/surcharge-missing.sheet");
+const SURCHARGE_TWICE: &[u8] = include_bytes!("../../../samples/surcharge-twice.sheet");
 const HOSTS: &[u8] = include_bytes!("../../../samples/hosts");
 const README: &str = include_str!("../../../README.md");
 
@@ -377,6 +380,111 @@ fn the_samples_of_exports() {
         assert_eq!(error.to_string(), words);
         assert!(table.iter().all(|&w| w == BEFORE) && work.iter().all(|&w| w == 0));
         assert_eq!(count_structs(sheet), Ok(1));
+    }
+}
+
+/// The direct calls of functions, and that of imports.
+const OF_FUNCTIONS: [u32; 3] = [7, 15, 20];
+const OF_IMPORTS: u32 = 21;
+
+/// Function 1 calls import 0 or function 0, which have as many parameters as flags, all dyn, and the list of these or none.
+fn calling(edition: u32, code: u32, flags: &[u32], listed: bool, given: u32) -> Vec<u8> {
+    let count = flags.len() as u32;
+    let mut list = vec![1, count];
+    list.extend(flags.iter().flat_map(|&flag| [flag, 0]));
+    let list = if listed { &list } else { &vec![0] };
+    let dyns = |count| vec![12; count];
+    // One empty string, the types of callees and caller, the import.
+    let mut words = vec![edition, 0, 1, 0, 2, 0, count];
+    words.extend(dyns(flags.len()));
+    words.extend([0, 0, 0, 0, 0, 1, 0, 0, 0]);
+    words.extend(list);
+    // No globals, two functions; the first returns.
+    words.extend([0, 2, 0, count]);
+    words.extend(dyns(flags.len()));
+    words.extend(list);
+    words.extend([0, 0, 0, 0, 0, 0, 1, 1, 0, 1, 256]);
+    words.extend(dyns(256));
+    words.extend([0, 0, 0, 0, 0, 0, 0, 2, code | given << 8, 0, 1, 0]);
+    words.extend([0, 0, 0]);
+    words[1] = words.len() as u32;
+    blocks(&words)
+}
+
+/// The call is refused by this limit, if any, or accepted.
+fn assert_call(sheet: &[u8], limit: Option<u32>, found: u32) {
+    let one_host = blocks(&[1, 6, 1, 0, 0, 0]);
+    let (verdict, [table, work]) = tried(sheet, &one_host, table_words(sheet.len()));
+    let refusal = verdict.err().map(|e| (e.kind(), e.func(), e.pc()));
+    let expected = limit.map(|expected| {
+        let kind = LoadErrorKind::ArityMismatch { expected, found };
+        (kind, Some(FuncId(1)), Some(0))
+    });
+    assert_eq!(refusal, expected);
+    assert_eq!(table[0], if limit.is_some() { BEFORE } else { 2 });
+    assert!(work.iter().all(|&w| w == 0));
+}
+
+/// The limits of edition 2 and of edition 1, which functions and imports without a list have too.
+fn assert_calls(flags: &[u32], given: u32, second: Option<u32>, first: Option<u32>) {
+    for (edition, limit) in [(2, second), (1, first)] {
+        let import = calling(edition, OF_IMPORTS, flags, true, given);
+        assert_call(&import, limit, given);
+        let import = calling(edition, OF_IMPORTS, flags, false, given);
+        assert_call(&import, first, given);
+        for code in OF_FUNCTIONS {
+            let function = calling(edition, code, flags, true, given);
+            assert_call(&function, first, given);
+        }
+    }
+}
+
+#[test]
+fn optional_arguments_are_left_out_in_edition_2() {
+    assert_calls(&[0, 2], 0, Some(1), Some(2));
+    assert_calls(&[0, 2], 1, None, Some(2));
+    assert_calls(&[0, 2], 2, None, None);
+    assert_calls(&[0, 2], 3, Some(2), Some(2));
+    // By reference is not optional.
+    assert_calls(&[0, 1], 1, Some(2), Some(2));
+    assert_calls(&[1, 3], 1, None, Some(2));
+    assert_calls(&[2], 0, None, Some(1));
+    assert_calls(&[], 0, None, None);
+    assert_calls(&[], 1, Some(0), Some(0));
+}
+
+#[test]
+fn over_255_parameters_are_called_if_few_are_mandatory() {
+    for given in [0, 1, 255] {
+        assert_calls(&[2; 256], given, None, Some(256));
+        assert_calls(&[0; 256], given, Some(256), Some(256));
+    }
+    let mut flags = [0; 300];
+    flags[255..].fill(2);
+    assert_calls(&flags, 254, Some(255), Some(300));
+    assert_calls(&flags, 255, None, Some(300));
+    flags[255] = 1;
+    assert_calls(&flags, 255, Some(256), Some(300));
+}
+
+#[test]
+fn the_samples_of_arguments() {
+    let words = table_words(SURCHARGE_LEFT_OUT.len());
+    assert_eq!(tried(SURCHARGE_LEFT_OUT, HOSTS, words).0, Ok(75));
+    let missing =
+        "wrong number of arguments: too few, 2 expected, 1 found, in function 0, instruction 1";
+    let twice =
+        "wrong number of arguments: too many, 2 expected, 3 found, in function 0, instruction 3";
+    let samples = [
+        (SURCHARGE_MISSING, [8, 0, 2, 1, 1, 2], missing),
+        (SURCHARGE_TWICE, [8, 0, 2, 3, 1, 4], twice),
+    ];
+    for (sheet, numbers, said) in samples {
+        let (verdict, [table, work]) = tried(sheet, HOSTS, words);
+        let error = verdict.expect_err("refused");
+        assert_eq!(error.numbers(), numbers);
+        assert_eq!(error.to_string(), said);
+        assert!(table.iter().all(|&w| w == BEFORE) && work.iter().all(|&w| w == 0));
     }
 }
 

@@ -17,21 +17,19 @@ use Rattle.error.specs.declared.LoadErrorKind.{LoadErrorKind}
 use Rattle.error.specs.declared.LoadErrorKind.the-variants.{ExportNameOutOfRange, DuplicateExport}
 use Rattle.error.specs.declared.LoadError.{LoadError}
 use Rattle.error.specs.declared.Loaded.the-variants.{Refused}
-use Rattle.error.specs.Answer.{kindNumbers, inModule, first, stringNumber}
+use Rattle.error.specs.Answer.{kindNumbers, inModule, stringNumber}
 use Rattle.sheet.specs.Module.{Export, Module}
 use Rattle.sheet.specs.Decode.{decode}
 use Rattle.sheet.specs.DecodedLaws.{decoded-edition}
 use Rattle.sheet.specs.Editions.{mostOf, readsExportNames}
-use Rattle.host.specs.Host.{HostFn, decodeHosts}
+use Rattle.host.specs.Host.{HostFn}
 use Rattle.hooks.specs.Hooks.{noExport, exportAt, indexFaults, nameFaults, exportFaults, exportsFaults}
 use Rattle.hooks.specs.ExportLaws.{earlier-duplicate, name-kept, name-broken, names-read, names-unread}
-use Rattle.table.specs.Table.{tableOf}
-use Rattle.load.specs.Load.{moduleFaults, faultsOf, longEnough, Opened, refused, opened, opening, answer, load}
-use Rattle.load.specs.LoadLaws.{module-opened}
+use Rattle.load.specs.Load.{moduleFaults, faultsOf, load}
 use Rattle.load.specs.Kinds.{kindNumber, judged, beforeExports, ofNames, ofRules, judged-before}
 use Rattle.load.specs.RuleKinds.{index-kinds, earlierFaults, earlier-kinds}
-use Rattle.load.specs.KindLaws.{early-apart, refused-early, accepted}
-use Rattle.law_faults.specs.Empty.{not-empty, append-empty, append-first, map-empty, every-from, first-from}
+use Rattle.load.specs.KindLaws.{accepted-rules, refused-rules}
+use Rattle.law_faults.specs.Empty.{append-empty, append-first, map-empty, map-first, every-from, first-from}
 use Rattle.calls.specs.EditionCalls.{statedEdition}
 use Rattle.calls.specs.ExportCalls.{SameName, NamesPick, NoString, Repeats, NamesAnswered, NamesRight}
 
@@ -127,17 +125,13 @@ module _ (m : Module) (k : LoadErrorKind) (n : ofNames k ≡ true) where
   -- of all exports
   exports-origin : (es : List LoadError) → exportsFaults m ≡ inModule k ∷ es → Origin m k
   unfolding exportsFaults exportAt
-  exports-origin es q = placed (concatMapFrom 0 (exportFaults m) (m .exports)) refl q
-    where
-      placed : (ks : List LoadErrorKind) → concatMapFrom 0 (exportFaults m) (m .exports) ≡ ks → map inModule ks ≡ inModule k ∷ es →
-          Origin m k
-      placed [] c h = not-empty (sym h)
-      placed (x ∷ ks) c h =
-          let z : x ≡ k = ap (λ (l : List LoadError). getD l 0 (inModule k) .kind) h in
-          first-from noExport 0 (exportFaults m) (m .exports) x ks c λ i l b zs f.
-          export-origin i l (λ j a. subst (λ (p : ℕ). exportFaults m p (getD (m .exports) j noExport) ≡ []) (omega arith) (b j a)) zs
-          (subst (λ (p : ℕ). exportFaults m p (getD (m .exports) i noExport) ≡ x ∷ zs) (omega arith) f
-          ∙ ap (λ (y : LoadErrorKind). y ∷ zs) z)
+  exports-origin es q =
+      map-first inModule (concatMapFrom 0 (exportFaults m) (m .exports)) (inModule k) es q λ x ks c h.
+      let z : x ≡ k = ap (λ (e : LoadError). e .kind) h in
+      first-from noExport 0 (exportFaults m) (m .exports) x ks c λ i l b zs f.
+      export-origin i l (λ j a. subst (λ (p : ℕ). exportFaults m p (getD (m .exports) j noExport) ≡ []) (omega arith) (b j a)) zs
+      (subst (λ (p : ℕ). exportFaults m p (getD (m .exports) i noExport) ≡ x ∷ zs) (omega arith) f
+      ∙ ap (λ (y : LoadErrorKind). y ∷ zs) z)
 
   -- of all rules
   origin : (most : ℕ) (hosts : List HostFn) (es : List LoadError) → moduleFaults most hosts m ≡ inModule k ∷ es → Origin m k
@@ -151,34 +145,13 @@ module _ (m : Module) (k : LoadErrorKind) (n : ofNames k ≡ true) where
 
 -- ── refusals ──
 
-some-same : {A : Type 0} (a b : A) → some a ≡ some b → a ≡ b
-some-same a b e = cc
-
-first-refused : {C : Type 0} (l : ℕ) (es : List LoadError) (e : LoadError) → first l es ≡ Refused e →
-    ((rest : List LoadError) → es ≡ e ∷ rest → C) → C
-unfolding first
-first-refused l [] e q f = let z : _≡_ {A = ℕ} 0 1 = cc in absurd (omega arith)
-first-refused l (x ∷ es) e q f = let z : x ≡ e = cc in f es (ap (λ (y : LoadError). y ∷ es) z)
-
 module _ (sheet hosts : List ℕ) (table work : ℕ) (m : Module) (d : decode sheet ≡ some m) where
   -- 27 and 28 come of the rules
   refused-origin : (k : LoadErrorKind) → ofNames k ≡ true → load sheet hosts table work ≡ Refused (inModule k) → Origin m k
-  unfolding load opening
-  refused-origin k n q = go (opening sheet hosts table work) refl q
-    where
-      go : (o : Opened) → opening sheet hosts table work ≡ o → answer o ≡ Refused (inModule k) → Origin m k
-      go (refused x) p q =
-          let y : inModule x ≡ inModule k = unfold answer in cc in
-          let z : x ≡ k = ap (λ (e : LoadError). e .kind) y in
-          let f = early-apart x (refused-early (longEnough sheet table work) (decode sheet) (decodeHosts hosts) x p) in
-          let g : ofRules k ≡ false = subst (λ (x : LoadErrorKind). ofRules x ≡ false) z f in
-          let h : ofRules k ≡ true = unfold ofRules in ap (λ (b : Bool). beforeExports k || b) n ∙ or-true (beforeExports k) in
-          let z : _≡_ {A = ℕ} 0 1 = cc in absurd (omega arith)
-      go (opened x hs) p q =
-          module-opened (longEnough sheet table work) (decode sheet) x (decodeHosts hosts) hs p λ t c o.
-          let z : x ≡ m = some-same x m (sym c ∙ d) in
-          first-refused (length (tableOf hs x)) (faultsOf hs x) (inModule k) (unfold answer in q) λ es h.
-          origin m k n (mostOf m) hs es (subst (λ (y : Module). faultsOf hs y ≡ inModule k ∷ es) z h)
+  unfolding ofRules
+  refused-origin k n q =
+      let t : ofRules k ≡ true = ap (λ (b : Bool). beforeExports k || b) n ∙ or-true (beforeExports k) in
+      refused-rules sheet hosts table work m d (inModule k) t q λ hs es h. origin m k n (mostOf m) hs es h
 
   edition-is : m .edition ≡ statedEdition sheet
   edition-is = decoded-edition sheet m d .0
@@ -235,10 +208,7 @@ answered sheet hosts table work m d =
     let edition = edition-is sheet hosts table work m d in
     record {
       accepted = λ l e q.
-          let k = (accepted sheet hosts table work l) .0 q in
-          let z : k .source ≡ m = some-same (k .source) m (sym (k .decodes) ∙ d) in
-          let none : faultsOf (k .hostList) m ≡ [] = subst (λ (y : Module). faultsOf (k .hostList) y ≡ []) z (k .kept) in
-          picks m (reads-second (edition ∙ e)) (last-empty m (k .hostList) none);
+          accepted-rules sheet hosts table work m d l q λ hs none. picks m (reads-second (edition ∙ e)) (last-empty m hs none);
       outOfRange = out-of-range sheet hosts table work m d;
       duplicate = duplicate-at sheet hosts table work m d;
       unread = λ e. ap (map inModule) (indexes-alone m (reads-first (edition ∙ e)) 0 (m .exports));

@@ -4,4 +4,6 @@ pub mod EditionCalls
 pub mod EditionCallLaws
 pub mod ExportCalls
 pub mod ExportCallLaws
+pub mod ArgumentCalls
+pub mod ArgumentCallLaws
 pub mod Cheap

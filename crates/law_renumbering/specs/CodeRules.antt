@@ -1,6 +1,6 @@
 -- Rule 7 under a renumbering. A rule that looks at a function, an import or a type ref looks at one that is known, since the fields come first.
 use mathlib.Core.Path.{_≡_, refl, sym, ap, ap₂, _∙_}
-use mathlib.Core.Bool.{Bool, not, _&&_, _||_}
+use mathlib.Core.Bool.{Bool, cond, not, _&&_, _||_}
 use mathlib.Core.List.{List, [], _++_, _∷_}
 use mathlib.Core.List
 use Prim.Native.Nat.{ℕ, _+_, _-_, _<_, zero, suc}
@@ -15,11 +15,14 @@ use Rattle.error.specs.declared.What.the-variants.{Functions, Registers, Import
 use Rattle.error.specs.declared.LoadErrorKind.the-variants.{CalleeHasCaptures, PromoteNotDynamic, WrongTypeKind, InvalidHandler, CatchNotDyn, OutOfRange}
 use Rattle.error.specs.Answer.{inFunction, atPosition, inRange, typeKindWord}
 use Rattle.sheet.specs.Module.{basic, isDyn, kindWord, Import, Handler, Switch, Inst, Func, Module, typeAt, opcode, slotA, slotB, slotC, slotD, slotW}
+use Rattle.sheet.specs.Editions.{mayLeaveOut}
 use Rattle.imports.specs.Params.{sigParams}
 use Rattle.code.specs.declared.FieldKind.{FieldKind}
 use Rattle.code.specs.Callee.{noFunc, noImport, funcAt, importAt, noCaptures}
 use Rattle.code.specs.Opcodes.{Rule, free, noPromote, promoteToDyn, tailCall, tailCallIndirect, call, callIndirect, callImport, callShape, makeClosure, ofKind, concatenate, notToRef, catchable, wideBits, Row, rows, row, step}
-use Rattle.code.specs.Code.{isDynRegister, goodHandler, handlerFaults, tableFaults, covers, fieldFaults, fieldsFaults, windowFaults, arityFaults, directFaults, promote, hasKind, ruleFaults, instFaults, placedFaults, lastPosition, lastFaults, codeFaults, codesFaults}
+use Rattle.code.specs.Code.{isDynRegister, goodHandler, handlerFaults, tableFaults, covers, fieldFaults, fieldsFaults}
+use Rattle.code.specs.Code.{windowFaults, arityFaults, directFaults, mandatory, fewestArguments, importCallFaults}
+use Rattle.code.specs.Code.{promote, hasKind, ruleFaults, instFaults, placedFaults, lastPosition, lastFaults, codeFaults, codesFaults}
 use Rattle.renumber.specs.Renumber.{image, valueImage, funcImage, importImage, typesImage, renumber}
 use Rattle.law_renumbering.specs.Bijection.{Listed}
 use Rattle.law_renumbering.specs.Images.{dyn-image, kind-image}
@@ -105,8 +108,8 @@ module _ (π : ℕ → ℕ) (f : Func) where
   unfolding lastFaults lastPosition funcImage
   last-together n = same-together refl
 
-arity-together : (a b n : ℕ) → a ≡ b → Together (arityFaults a n) (arityFaults b n)
-arity-together a b n e = same-together (ap (λ (k : ℕ). arityFaults k n) e)
+arity-together : (a b c d n : ℕ) → a ≡ c → b ≡ d → Together (arityFaults a b n) (arityFaults c d n)
+arity-together a b c d n e f = same-together (ap₂ (λ (i k : ℕ). arityFaults i k n) e f)
 
 module _ (r : List ℕ) (m : Module) (l : Listed (length (m .types)) r) where
   -- ── callees ──
@@ -126,6 +129,15 @@ module _ (r : List ℕ) (m : Module) (l : Listed (length (m .types)) r) where
   pub import-params : (g : ℕ) → g < length (m .imports) → length (sigParams m (importAt m g .sig)) ≡ length (sigParams (renumber r m) (importAt (renumber r m) g .sig))
   unfolding importImage
   import-params g h = sym (ap (λ (i : Import). length (sigParams (renumber r m) (i .sig))) (import-known g h) ∙ params-count r m l (importAt m g .sig))
+
+  -- lists are as they were
+  import-fewest : (g : ℕ) → g < length (m .imports) →
+      fewestArguments m (importAt m g) ≡ fewestArguments (renumber r m) (importAt (renumber r m) g)
+  unfolding fewestArguments importImage renumber
+  import-fewest g h =
+      let lists : importAt m g .params ≡ importAt (renumber r m) g .params = sym (ap (λ (i : Import). i .params) (import-known g h)) in
+      let both = ap₂ mandatory lists (import-params g h) in
+      ap₂ (cond (mayLeaveOut (m .edition))) both (import-params g h)
 
   captures-count : (g : ℕ) → g < length (m .funcs) → length (funcAt m g .captures) ≡ length (funcAt (renumber r m) g .captures)
   unfolding funcImage
@@ -189,8 +201,14 @@ module _ (r : List ℕ) (m : Module) (l : Listed (length (m .types)) r) where
     unfolding directFaults
     direct-together g first n h =
         window-together (image r) f first n n refl
-        ⊕ arity-together (length (sigParams m (funcAt m g .sig))) (length (sigParams (renumber r m) (funcAt (renumber r m) g .sig))) n (func-params g h)
+        ⊕ arity-together _ _ _ _ n (func-params g h) (func-params g h)
         ⊕ together-unless CalleeHasCaptures CalleeHasCaptures (no-captures g h)
+
+    import-together : (j first n : ℕ) → j < length (m .imports) →
+        Together (importCallFaults m f j first n) (importCallFaults (renumber r m) (funcImage (image r) f) j first n)
+    unfolding importCallFaults
+    import-together j first n h =
+        window-together (image r) f first n n refl ⊕ arity-together _ _ _ _ n (import-fewest j h) (import-params j h)
 
     kind-ref : (i : ℕ) → i < length (f .typeRefs) →
         kindWord (typeAt (m .types) (getD (f .typeRefs) i 0)) ≡ kindWord (typeAt (renumber r m .types) (getD (funcImage (image r) f .typeRefs) i 0))
@@ -217,10 +235,7 @@ module _ (r : List ℕ) (m : Module) (l : Listed (length (m .types)) r) where
     rule-together c i tailCallIndirect b w q x y = window-together (image r) f (slotA i) (slotD i) (slotD i) refl ⊕ same-together refl
     rule-together c i call b w q x y = direct-together (slotW i) (slotA i + 1) (slotD i) (func-range w (slotW i) q y)
     rule-together c i callIndirect b w q x y = window-together (image r) f (slotA i + 1) (slotD i) (slotD i) refl
-    rule-together c i callImport b w q x y =
-        window-together (image r) f (slotA i + 1) (slotD i) (slotD i) refl
-        ⊕ arity-together (length (sigParams m (importAt m (slotW i) .sig))) (length (sigParams (renumber r m) (importAt (renumber r m) (slotW i) .sig))) (slotD i)
-        (import-params (slotW i) (import-range w (slotW i) q y))
+    rule-together c i callImport b w q x y = import-together (slotW i) (slotA i + 1) (slotD i) (import-range w (slotW i) q y)
     rule-together c i callShape b w q x y = shape-window i
     rule-together c i makeClosure b w q x y =
         window-together (image r) f (slotA i + 1) (length (funcAt m (slotW i) .captures)) (length (funcAt (renumber r m) (slotW i) .captures))

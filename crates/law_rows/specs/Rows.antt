@@ -3,13 +3,13 @@ use Prim.Native.Nat.{ℕ, _+_, _*_}
 use mathlib.Core.List.{List, [], _∷_, _++_, map}
 use mathlib.Core.Path.{_≡_}
 use mathlib.Core.Bool.{Bool, true}
-use mathlib.Core.Option.{none}
+use mathlib.Core.Option.{none, some}
 use lib.ListN.{take, replicate}
 use Rattle.lists.specs.Lists.{allOf, same, from}
 use Rattle.blocks.specs.Blocks.{titled, written}
 use Rattle.error.specs.Answer.{numbers, refusal}
-use Rattle.sheet.specs.Module.{ValueType, ref, dyn, TypeDef, func, struct, coroutine, Const, Func, Handler, Inst, Hook, Export, Module}
-use Rattle.sheet.specs.Module.{noModule}
+use Rattle.sheet.specs.Module.{ValueType, ref, dyn, TypeDef, func, struct, coroutine, Const, ParamList}
+use Rattle.sheet.specs.Module.{Func, Handler, Inst, Hook, Export, Module, noModule}
 use Rattle.sheet.specs.Encode.{sheetOf}
 use Rattle.host.specs.Host.{hostsOf}
 use Rattle.table.specs.Records.{catchTable, noHandler}
@@ -76,13 +76,13 @@ inst code d a w = record { low = code + 256 * d + 65536 * a; high = w }
 abbrev retVoid : Inst
 retVoid = inst 1 0 0 0
 
--- a function with a signature, dyn registers, handlers and code
-abbrev function : ℕ → ℕ → List Handler → List Inst → Func
-function s n hs is =
+-- a function with a parameter list, a signature, dyn registers, handlers and code; and one without a list
+abbrev functionWith : ParamList → ℕ → ℕ → List Handler → List Inst → Func
+functionWith ps s n hs is =
     record {
       sig = s;
       regs = replicate n dyn;
-      params = none;
+      params = ps;
       shapes = [];
       captures = [];
       names = [];
@@ -91,6 +91,9 @@ function s n hs is =
       tables = [];
       code = is;
     }
+
+abbrev function : ℕ → ℕ → List Handler → List Inst → Func
+function = functionWith none
 
 abbrev handler : ℕ → ℕ → Handler
 handler s e = record { start = s; end = e; target = 0; catch = 0 }
@@ -150,6 +153,37 @@ byTwoStrings = asType 0 0 ∷ asType 1 0 ∷ []
 abbrev ofTwoKinds : List Export
 ofTwoKinds = asFunction 0 0 ∷ asType 0 0 ∷ []
 
+-- function 0 calls the import of edition e, which has n dyn, with d arguments, from so many registers
+abbrev hosting : ℕ → ℕ → ℕ → ParamList → ℕ → Module
+hosting e regs n ps d =
+    record {
+      edition = e;
+      strings = [] ∷ [];
+      types = taking (replicate n dyn) [] ∷ taking [] [] ∷ [];
+      consts = [];
+      imports = record { moduleName = 0; name = 0; sig = 0; params = ps } ∷ [];
+      globals = [];
+      funcs = function 1 regs [] (inst 21 d 0 0 ∷ retVoid ∷ []) ∷ [];
+      hooks = [];
+      start+ = 0;
+      exports = [];
+    }
+
+-- a parameter list by its flags: 0 mandatory, 1 by reference, 2 optional, 3 both
+abbrev listed : List ℕ → ParamList
+listed flags = some (map (λ f. record { flags = f; name+ = 0 }) flags)
+
+-- the surcharge, second of two, may be left out
+abbrev surcharge : ParamList
+surcharge = listed (0 ∷ 2 ∷ [])
+
+-- a function has that list, and is called with one argument
+abbrev ownList : Module
+ownList =
+    let callee = functionWith surcharge 0 2 [] (retVoid ∷ []) in
+    let caller = function 1 5 [] (inst 15 1 0 0 ∷ retVoid ∷ []) in
+    moduleIn 2 (taking (dyn ∷ dyn ∷ []) [] ∷ taking [] [] ∷ []) [] (callee ∷ caller ∷ []) []
+
 -- ── what the definitions give ──
 
 -- does t descend from a, by the table
@@ -173,6 +207,21 @@ answerTo sheet = numbers (load sheet (hostsOf []) room room)
 
 abbrev answerOf : Module → List ℕ
 answerOf m = answerTo (sheetOf m)
+
+-- under a host list that has the one function of `hosting`
+abbrev hostedOf : Module → List ℕ
+hostedOf m = numbers (load (sheetOf m) (hostsOf (record { moduleName = []; name = []; kind = 0 } ∷ [])) room room)
+
+-- a call with d arguments from six registers, and its answer or that it passes
+abbrev called : ℕ → ℕ → ParamList → ℕ → List ℕ
+called e n ps d = hostedOf (hosting e 6 n ps d)
+
+abbrev callPasses : ℕ → ℕ → ParamList → ℕ → List ℕ × List ℕ
+callPasses e n ps d = (take 1 (called e n ps d), 0 ∷ [])
+
+-- 8 at the call
+abbrev expecting : ℕ → ℕ → List ℕ
+expecting r d = 8 ∷ 0 ∷ r ∷ d ∷ 1 ∷ 1 ∷ []
 
 abbrev spanWords : List TypeDef → List ℕ
 spanWords ts = spansOf (ofTypes ts)
@@ -202,7 +251,7 @@ named kind n = kind ∷ 0 ∷ n ∷ 0 ∷ 0 ∷ 0 ∷ []
 
 -- ── the rows ──
 
--- the two long chains are the last
+-- the two long lists and the two long chains are the last
 unfoldable pub rows : List (List ℕ × List ℕ)
 rows =
     (answerTo emptySheet, 0 ∷ 0 ∷ 49 ∷ 0 ∷ 0 ∷ 0 ∷ [])
@@ -248,6 +297,23 @@ rows =
     ∷ (answerOf (exporting 2 ([] ∷ a) (asType 0 0 ∷ asType 1 0 ∷ asType 2 0 ∷ [])), named 27 2)
     ∷ (kindOf (exporting 2 ([] ∷ a) (asType 0 0 ∷ asType 1 0 ∷ [])), passes)
     ∷ (kindOf (exporting 1 aTwice (noName ++ thrice ++ byTwoStrings ++ ofTwoKinds)), passes)
+    ∷ (called 2 2 surcharge 0, expecting 1 0)
+    ∷ callPasses 2 2 surcharge 1
+    ∷ callPasses 2 2 surcharge 2
+    ∷ (called 2 2 surcharge 3, expecting 2 3)
+    ∷ (called 1 2 surcharge 1, expecting 2 1)
+    ∷ callPasses 1 2 surcharge 2
+    ∷ callPasses 2 2 (listed (2 ∷ 2 ∷ [])) 0
+    ∷ (called 2 2 (listed (0 ∷ 1 ∷ [])) 1, expecting 2 1)
+    ∷ callPasses 2 2 (listed (1 ∷ 3 ∷ [])) 1
+    ∷ (called 2 2 none 1, expecting 2 1)
+    ∷ callPasses 2 2 none 2
+    ∷ callPasses 2 0 (listed []) 0
+    ∷ (called 2 0 (listed []) 1, expecting 0 1)
+    ∷ (hostedOf (hosting 2 3 2 surcharge 3), 3 ∷ 5 ∷ 3 ∷ 0 ∷ 1 ∷ 1 ∷ [])
+    ∷ (answerOf ownList, 8 ∷ 0 ∷ 2 ∷ 1 ∷ 2 ∷ 1 ∷ [])
+    ∷ (take 1 (hostedOf (hosting 2 256 256 (listed (replicate 256 2)) 255)), 0 ∷ [])
+    ∷ (hostedOf (hosting 2 256 256 (listed (replicate 256 0)) 255), expecting 256 255)
     ∷ (kindOf (ofTypes (chainOf 256)), passes)
     ∷ (answerOf (ofTypes (chainOf 257)), refusal 17)
     ∷ []

@@ -116,6 +116,16 @@ unfolding first
 first-accepted n l [] q = (refl, cc)
 first-accepted n l (e ∷ es) q = let z : _≡_ {A = ℕ} 0 1 = cc in absurd (omega arith)
 
+-- refused: for the first
+first-refused : {C : Type 0} (l : ℕ) (es : List LoadError) (e : LoadError) → first l es ≡ Refused e →
+    ((rest : List LoadError) → es ≡ e ∷ rest → C) → C
+unfolding first
+first-refused l [] e q f = let z : _≡_ {A = ℕ} 0 1 = cc in absurd (omega arith)
+first-refused l (x ∷ es) e q f = let z : x ≡ e = cc in f es (ap (λ (y : LoadError). y ∷ es) z)
+
+some-same : {A : Type 0} (a b : A) → some a ≡ some b → a ≡ b
+some-same a b e = cc
+
 -- ── the answers ──
 
 module _ (sheet hosts : List ℕ) (table work : ℕ) where
@@ -182,6 +192,35 @@ module _ (sheet hosts : List ℕ) (table work : ℕ) where
           let z : inModule k ≡ e = unfold answer in cc in
           f (subst (λ (x : LoadError). early (x .kind) ≡ true) z (refused-early (longEnough sheet table work) (decode sheet) (decodeHosts hosts) k p))
       go (opened m hs) p q = g m hs q
+
+  -- ── of the module that the sheet decodes to ──
+
+  module _ (m : Module) (d : decode sheet ≡ some m) {C : Type 0} where
+    -- accepted: nothing is broken
+    pub accepted-rules : (l : ℕ) → load sheet hosts table work ≡ Accepted l → ((hs : List HostFn) → faultsOf hs m ≡ [] → C) → C
+    accepted-rules l q g =
+        let k = (accepted l) .0 q in
+        let z : k .source ≡ m = some-same (k .source) m (sym (k .decodes) ∙ d) in
+        g (k .hostList) (subst (λ (y : Module). faultsOf (k .hostList) y ≡ []) z (k .kept))
+
+    -- refused with a kind of the rules: for the first fault
+    pub refused-rules : (e : LoadError) → ofRules (e .kind) ≡ true → load sheet hosts table work ≡ Refused e →
+        ((hs : List HostFn) (es : List LoadError) → faultsOf hs m ≡ e ∷ es → C) → C
+    unfolding load opening
+    refused-rules e n q g = go (opening sheet hosts table work) refl q
+      where
+        go : (o : Opened) → opening sheet hosts table work ≡ o → answer o ≡ Refused e → C
+        go (refused k) p q =
+            let z : inModule k ≡ e = unfold answer in cc in
+            let f = early-apart k (refused-early (longEnough sheet table work) (decode sheet) (decodeHosts hosts) k p) in
+            let t = ap (λ (x : LoadError). ofRules (x .kind)) z ∙ n in
+            let y : _≡_ {A = ℕ} 0 1 = cc in
+            absurd (omega arith)
+        go (opened x hs) p q =
+            module-opened (longEnough sheet table work) (decode sheet) x (decodeHosts hosts) hs p λ t c o.
+            let z : x ≡ m = some-same x m (sym c ∙ d) in
+            first-refused (length (tableOf hs x)) (faultsOf hs x) e (unfold answer in q) λ es h.
+            g hs es (subst (λ (y : Module). faultsOf hs y ≡ e ∷ es) z h)
 
   -- 25 is the family query's alone
   pub never-not-linked : (e : LoadError) → load sheet hosts table work ≡ Refused e → e .kind ≡ NotLinked → ⊥

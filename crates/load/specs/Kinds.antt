@@ -5,7 +5,9 @@ use mathlib.Core.List.{List, [], _∷_, map}
 use mathlib.Core.Bool.{Bool, true, false, _&&_, _||_}
 use lib.Dec.{eqb, ltb}
 use lib.ListN.{getD}
+use borrow.Author.Tests.{eqb-true}
 use Rattle.lists.specs.Lists.{allOf, contains}
+use Rattle.lists.specs.ListLaws.{all-imp}
 use Rattle.lists.specs.AllLaws.{all-join, all-map, all-each, all-each-from}
 use Rattle.error.specs.declared.LoadErrorKind.{LoadErrorKind}
 use Rattle.error.specs.declared.LoadError.{LoadError}
@@ -18,6 +20,15 @@ kindNumber k = getD (kindNumbers k) 0 0
 -- kinds 2 to 22: all rules but the walk and the names of exports give no others
 unfoldable pub judged : LoadErrorKind → Bool
 judged k = ltb 1 (kindNumber k) && ltb (kindNumber k) 23
+
+-- 3: a number that is out of range
+unfoldable pub ofRange : LoadErrorKind → Bool
+ofRange k = eqb (kindNumber k) 3
+
+pub ranges-judged : (ks : List LoadErrorKind) → allOf ofRange ks ≡ true → allOf judged ks ≡ true
+unfolding ofRange judged
+ranges-judged ks h =
+    all-imp ofRange judged (λ k e. ap (λ (n : ℕ). ltb 1 n && ltb n 23) (eqb-true (kindNumber k) 3 e)) ks h
 
 -- 26 too: the kinds of all rules before exports
 unfoldable pub beforeExports : LoadErrorKind → Bool

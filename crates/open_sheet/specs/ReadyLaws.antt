@@ -128,6 +128,19 @@ module _ (ws w : List ℕ) (o : Opened) (x : Ready ws w o) where
   unfolding indexOf
   funcs-inside = inside (λ (i : Index). i .funcs) (length (moduleIn ws .funcs)) (omega (arith, funcs-indexed ws (moduleIn ws) (o .layout) (x .opens .located) .count))
 
+  -- a word for each import and each function is inside a region
+  pub callees-inside : o .counts .funcs + o .counts .imports < o .layout .words
+  unfolding indexOf
+  callees-inside =
+      omega (
+        arith,
+        funcs-inside,
+        ap (λ (i : Index). i .funcs) (x .edges),
+        imports-indexed ws (moduleIn ws) (o .layout) (x .opens .located) .count,
+        count-imports ws o (x .opens),
+        count-funcs ws o (x .opens),
+      )
+
   -- ── the word of a member's place ──
 
   pub string-room : (s : ℕ) → s < o .counts .strings → o .index .strings + s < length w

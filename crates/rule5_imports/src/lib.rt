@@ -67,7 +67,7 @@ pub fn import_sig(sheet: &[u8], work: &[u32], o: Opened, i: u32) -> TypeId
     TypeId(word(sheet, import_at(work, o, i) + 2))
 }
 
-fn import_params(sheet: &[u8], work: &[u32], o: Opened, i: u32) -> usize
+pub fn import_params(sheet: &[u8], work: &[u32], o: Opened, i: u32) -> usize
     requires { ⌜ Ready (sheetWords (now sheet) o) (now work) o ⌝ }
     requires { ⌜ i < o .counts .imports ⌝ }
     ensures { λ r. ⌜ Whole (paramList (sheetWords (now (sheet .entry)) o) r) ⌝ }

@@ -1,6 +1,6 @@
 -- What an instruction calls, or makes: by number.
 use Prim.Native.Nat.{ℕ, _+_, _*_, _≤_, _<_}
-use mathlib.Core.Path.{_≡_, refl, ap, _∙_}
+use mathlib.Core.Path.{_≡_, refl, ap, ap₂, _∙_}
 use mathlib.Core.List.{List, _++_}
 use native.Mathlib.Omega.{arith}
 use lib.ListN.{length, getD}
@@ -15,22 +15,24 @@ use Rattle.error.specs.Answer.{unless}
 use Rattle.error.specs.Verdict.{verdictOf}
 use Rattle.error.specs.VerdictLaws.{verdict-then, verdict-stop}
 use Rattle.reader.specs.Reader.{got}
+use Rattle.sheet.specs.Module.{Import, Func, Module}
 use Rattle.sheet.specs.Decode.{functionOf}
 use Rattle.open_layout.specs.Opened.{moduleIn}
 use Rattle.imports.specs.Params.{sigParams}
 use Rattle.open_sheet.specs.declared.Opened.{Opened}
 use Rattle.open_sheet.specs.Ready.{Ready, posAt}
 use Rattle.open_sheet.specs.ReadyLaws.{funcs-in, entry-ends}
-use Rattle.open_sheet.specs.MemberLaws.{func-sig, import-sig}
-use Rattle.code.specs.Callee.{noFunc, noImport, funcAt, importAt, noCaptures}
-use Rattle.code.specs.Code.{windowFaults, arityFaults, directFaults}
+use Rattle.open_sheet.specs.MemberLaws.{func-sig}
+use Rattle.code.specs.Callee.{noFunc, funcAt, importAt, noCaptures}
+use Rattle.code.specs.Code.{windowFaults, arityFaults, directFaults, mostArguments, fewestArguments, importCallFaults}
 use Rattle.rule_frames.specs.declared.Frame.{Frame}
 use Rattle.rule_frames.specs.Frames.{funcOf, Framed}
 use Rattle.rule7_numbers.specs.Numbers.{windowIn, captureFaults}
-use Rattle.rule7_callees.specs.Callees.{importFaults, Checkable}
+use Rattle.rule7_arguments.specs.Arguments.{fewestAt}
+use Rattle.rule7_callees.specs.Callees.{Checkable}
 use Rattle.rule7_callees.proofs.Words.{few-captures}
 
--- ── functions and imports by number ──
+-- ── functions by number ──
 
 module _ (b w : List ℕ) (o : Opened) (x : Ready (firstWords b (o .layout .words)) w o) where
   abbrev ws : List ℕ
@@ -49,12 +51,6 @@ module _ (b w : List ℕ) (o : Opened) (x : Ready (firstWords b (o .layout .word
     unfolding funcAt
     callee-params e k y = y ∙ ap (λ t. length (sigParams (moduleIn ws) t)) (func-sig b w o x g h noFunc e k)
 
-  module _ (j : ℕ) (h : j < o .counts .imports) where
-    pub import-params : {at s r : ℕ} → at ≡ posAt w (o .index .imports) j → s ≡ getD (words b) (at + 2) 0 → r ≡ length (sigParams (moduleIn ws) s)
-        → r ≡ length (sigParams (moduleIn ws) (importAt (moduleIn ws) j .sig))
-    unfolding importAt
-    import-params e k y = y ∙ ap (λ t. length (sigParams (moduleIn ws) t)) (import-sig b w o x j h e noImport k)
-
 -- ── calls ──
 
 pub window-of : (ws : List ℕ) (c : Frame) (first n : ℕ) {r : Verdict} → Framed ws c → r ≡ verdictOf (windowIn (c .regs) first n) → r ≡ verdictOf (windowFaults (funcOf ws c) first n)
@@ -65,46 +61,62 @@ module _ (b w : List ℕ) (o : Opened) (c : Frame) (x : Checkable (firstWords b 
   abbrev sheetWords : List ℕ
   sheetWords = firstWords b (o .layout .words)
 
-  module _ {v : Verdict} where
-    window : v ≡ verdictOf (windowIn (c .regs) first n) → v ≡ verdictOf (windowFaults (funcOf sheetWords c) first n)
-    window h = window-of sheetWords c first n (x .framed) h
+  abbrev m : Module
+  m = moduleIn sheetWords
 
-    pub direct-window : (g : ℕ) (k : LoadErrorKind) → v ≡ Broken k → v ≡ verdictOf (windowIn (c .regs) first n) → Broken k ≡ verdictOf (directFaults (moduleIn sheetWords) (funcOf sheetWords c) g first n)
-    unfolding directFaults
-    direct-window g k e h =
-        let xs = windowFaults (funcOf sheetWords c) first n in
-        let ys = arityFaults (length (sigParams (moduleIn sheetWords) (funcAt (moduleIn sheetWords) g .sig))) n in
-        verdict-stop (xs ++ ys) (unless (noCaptures (funcAt (moduleIn sheetWords) g)) CalleeHasCaptures) k refl (verdict-stop xs ys k e (window h))
+  abbrev f : Func
+  f = funcOf sheetWords c
 
-    pub import-window : (j : ℕ) (k : LoadErrorKind) → v ≡ Broken k → v ≡ verdictOf (windowIn (c .regs) first n) → Broken k ≡ verdictOf (importFaults (moduleIn sheetWords) (funcOf sheetWords c) j first n)
-    unfolding importFaults
-    import-window j k e h =
-        verdict-stop (windowFaults (funcOf sheetWords c) first n) (arityFaults (length (sigParams (moduleIn sheetWords) (importAt (moduleIn sheetWords) j .sig))) n) k e (window h)
+  module _ {v : Verdict} (h : v ≡ verdictOf (windowIn (c .regs) first n)) where
+    window : v ≡ verdictOf (windowFaults f first n)
+    window = window-of sheetWords c first n (x .framed) h
 
-    module _ (e : v ≡ Holds) (h : v ≡ verdictOf (windowIn (c .regs) first n)) {p : ℕ} where
-      pub import-arity : (j : ℕ) {r : Verdict} → p ≡ length (sigParams (moduleIn sheetWords) (importAt (moduleIn sheetWords) j .sig)) → r ≡ verdictOf (arityFaults p n)
-          → r ≡ verdictOf (importFaults (moduleIn sheetWords) (funcOf sheetWords c) j first n)
-      unfolding importFaults
-      import-arity j y z =
-          verdict-then (windowFaults (funcOf sheetWords c) first n) (arityFaults (length (sigParams (moduleIn sheetWords) (importAt (moduleIn sheetWords) j .sig))) n) e (window h)
-          (z ∙ ap (λ m. verdictOf (arityFaults m n)) y)
+    -- ── of a function ──
 
-      module _ (g : ℕ) {u : Verdict} (y : p ≡ length (sigParams (moduleIn sheetWords) (funcAt (moduleIn sheetWords) g .sig))) where
-        both : u ≡ verdictOf (arityFaults p n) → u ≡ verdictOf (windowFaults (funcOf sheetWords c) first n ++ arityFaults (length (sigParams (moduleIn sheetWords) (funcAt (moduleIn sheetWords) g .sig))) n)
-        both z =
-            verdict-then (windowFaults (funcOf sheetWords c) first n) (arityFaults (length (sigParams (moduleIn sheetWords) (funcAt (moduleIn sheetWords) g .sig))) n) e (window h)
-            (z ∙ ap (λ m. verdictOf (arityFaults m n)) y)
+    module _ (g : ℕ) where
+      abbrev params : ℕ
+      params = length (sigParams m (funcAt m g .sig))
 
-        pub direct-arity : (k : LoadErrorKind) → u ≡ Broken k → u ≡ verdictOf (arityFaults p n) → Broken k ≡ verdictOf (directFaults (moduleIn sheetWords) (funcOf sheetWords c) g first n)
+      abbrev others : List LoadErrorKind
+      others = unless (noCaptures (funcAt m g)) CalleeHasCaptures
+
+      pub direct-window : (k : LoadErrorKind) → v ≡ Broken k → Broken k ≡ verdictOf (directFaults m f g first n)
+      unfolding directFaults
+      direct-window k e =
+          let xs = windowFaults f first n in
+          let ys = arityFaults params params n in
+          verdict-stop (xs ++ ys) others k refl (verdict-stop xs ys k e window)
+
+      module _ (e : v ≡ Holds) {p : ℕ} (y : p ≡ params) {u : Verdict} (z : u ≡ verdictOf (arityFaults p p n)) where
+        both : u ≡ verdictOf (windowFaults f first n ++ arityFaults params params n)
+        both =
+            verdict-then (windowFaults f first n) (arityFaults params params n) e window (z ∙ ap (λ k. verdictOf (arityFaults k k n)) y)
+
+        pub direct-arity : (k : LoadErrorKind) → u ≡ Broken k → Broken k ≡ verdictOf (directFaults m f g first n)
         unfolding directFaults
-        direct-arity k a z =
-            verdict-stop (windowFaults (funcOf sheetWords c) first n ++ arityFaults (length (sigParams (moduleIn sheetWords) (funcAt (moduleIn sheetWords) g .sig))) n)
-            (unless (noCaptures (funcAt (moduleIn sheetWords) g)) CalleeHasCaptures) k a (both z)
+        direct-arity k a = verdict-stop (windowFaults f first n ++ arityFaults params params n) others k a both
 
-        pub direct-captures : {m : ℕ} {r : Verdict} → g < o .counts .funcs → u ≡ Holds → u ≡ verdictOf (arityFaults p n) → m ≡ getD w (4 * o .layout .words + g) 0 → r ≡ verdictOf (captureFaults m)
-            → r ≡ verdictOf (directFaults (moduleIn sheetWords) (funcOf sheetWords c) g first n)
+        pub direct-captures : {k : ℕ} {r : Verdict} → g < o .counts .funcs → u ≡ Holds → k ≡ getD w (4 * o .layout .words + g) 0 →
+            r ≡ verdictOf (captureFaults k) → r ≡ verdictOf (directFaults m f g first n)
         unfolding directFaults captureFaults noCaptures funcAt
-        direct-captures {m} l a z t q =
-            let s : m ≡ length (funcAt (moduleIn sheetWords) g .captures) = t ∙ x .captured .captures g noFunc (funcs-in sheetWords w o (x .ready) g l) in
-            verdict-then (windowFaults (funcOf sheetWords c) first n ++ arityFaults (length (sigParams (moduleIn sheetWords) (funcAt (moduleIn sheetWords) g .sig))) n)
-            (unless (noCaptures (funcAt (moduleIn sheetWords) g)) CalleeHasCaptures) a (both z) (q ∙ ap (λ k. verdictOf (captureFaults k)) s)
+        direct-captures {k} l a t q =
+            let s : k ≡ length (funcAt m g .captures) =
+            t ∙ x .tallied .captured .captures g noFunc (funcs-in sheetWords w o (x .ready) g l) in
+            verdict-then (windowFaults f first n ++ arityFaults params params n) others a both (q ∙ ap (λ i. verdictOf (captureFaults i)) s)
+
+    -- ── of an import ──
+
+    module _ (j : ℕ) where
+      abbrev i : Import
+      i = importAt m j
+
+      pub import-window : (k : LoadErrorKind) → v ≡ Broken k → Broken k ≡ verdictOf (importCallFaults m f j first n)
+      unfolding importCallFaults
+      import-window k e = verdict-stop (windowFaults f first n) (arityFaults (fewestArguments m i) (mostArguments m i) n) k e window
+
+      pub import-arity : v ≡ Holds → {least most : ℕ} {r : Verdict} → j < o .counts .imports → least ≡ getD w (fewestAt o + j) 0 →
+          most ≡ mostArguments m i → r ≡ verdictOf (arityFaults least most n) → r ≡ verdictOf (importCallFaults m f j first n)
+      unfolding importCallFaults
+      import-arity e l a b z =
+          verdict-then (windowFaults f first n) (arityFaults (fewestArguments m i) (mostArguments m i) n) e window
+          (z ∙ ap₂ (λ p q. verdictOf (arityFaults p q n)) (a ∙ x .tallied .fewest .counts j l) b)

@@ -5,10 +5,10 @@ ghost use lib.ListN.{length, getD};
 ghost use Rattle.error.specs.Verdict.{verdictOf};
 ghost use Rattle.imports.specs.Params.{sigParams};
 ghost use Rattle.open_sheet.specs.Ready.{Ready, sheetWords, moduleOf};
-ghost use Rattle.code.specs.Callee.{funcAt, importAt};
-ghost use Rattle.code.specs.Code.{directFaults};
+ghost use Rattle.code.specs.Callee.{funcAt};
+ghost use Rattle.code.specs.Code.{directFaults, importCallFaults};
 ghost use Rattle.rule_frames.specs.Frames.{funcOf};
-ghost use Rattle.rule7_callees.specs.Callees.{importFaults, Checkable};
+ghost use Rattle.rule7_callees.specs.Callees.{Checkable};
 
 pub mod kinds;
 
@@ -18,9 +18,10 @@ use error::TypeId;
 use error::Verdict;
 use open_sheet::Opened;
 use open_sheet::func_at;
-use open_sheet::import_at;
 use rule_frames::Frame;
 use rule_signatures::param_count;
+use rule7_arguments::fewest_arguments;
+use rule7_arguments::most_arguments;
 use rule7_numbers::check_arity;
 use rule7_numbers::check_captures;
 use rule7_numbers::check_window;
@@ -51,16 +52,6 @@ fn callee_params(sheet: &[u8], work: &[u32], o: Opened, g: FuncId) -> u32
     param_count(sheet, work, o, TypeId(sig))
 }
 
-// How many parameters import j has: its signature is its third word.
-fn import_params(sheet: &[u8], work: &[u32], o: Opened, j: u32) -> u32
-    requires { ⌜ Ready (sheetWords (now sheet) o) (now work) o ⌝ }
-    requires { ⌜ j < o .counts .imports ⌝ }
-    ensures { λ r. ⌜ r ≡ length (sigParams (moduleOf (now (sheet .entry)) o) (importAt (moduleOf (now (sheet .entry)) o) j .sig)) ⌝ }
-{
-    let sig = word(sheet, import_at(work, o, j) + 2);
-    param_count(sheet, work, o, TypeId(sig))
-}
-
 // A direct call of function g with n arguments from the first register on.
 pub fn check_direct(
     sheet: &[u8],
@@ -83,7 +74,8 @@ pub fn check_direct(
             return Verdict::Broken(k);
         }
     }
-    match check_arity(callee_params(sheet, work, o, g), n) {
+    let params = callee_params(sheet, work, o, g);
+    match check_arity(params, params, n) {
         Verdict::Holds => {}
         Verdict::Broken(k) => {
             return Verdict::Broken(k);
@@ -106,7 +98,7 @@ pub fn check_import(
     requires { ⌜ j < o .counts .imports ⌝ }
     requires { ⌜ first ≤ 65536 ⌝ }
     requires { ⌜ n ≤ 520192 ⌝ }
-    ensures { λ r. ⌜ r ≡ verdictOf (importFaults (moduleOf (now (sheet .entry)) o) (funcOf (sheetWords (now (sheet .entry)) o) c) j first n) ⌝ }
+    ensures { λ r. ⌜ r ≡ verdictOf (importCallFaults (moduleOf (now (sheet .entry)) o) (funcOf (sheetWords (now (sheet .entry)) o) c) j first n) ⌝ }
 {
     match check_window(c, first, n) {
         Verdict::Holds => {}
@@ -114,5 +106,7 @@ pub fn check_import(
             return Verdict::Broken(k);
         }
     }
-    check_arity(import_params(sheet, work, o, j), n)
+    let fewest = fewest_arguments(work, o, j);
+    let most = most_arguments(sheet, work, o, j);
+    check_arity(fewest, most, n)
 }

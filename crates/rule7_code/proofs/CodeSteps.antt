@@ -18,8 +18,10 @@ use Rattle.code.specs.Callee.{noFunc, funcAt}
 use Rattle.code.specs.Code.{lastFaults, codeFaults, codesFaults}
 use Rattle.region.specs.Region.{Off, Frame}
 use Rattle.open_sheet.specs.declared.Opened.{Opened}
-use Rattle.open_sheet.specs.Ready.{Ready, Captured, Above}
-use Rattle.open_sheet.specs.ReadyLaws.{count-funcs, funcs-inside, above-refl, above-then, ready-above, captured-above}
+use Rattle.open_sheet.specs.Ready.{Ready, Above}
+use Rattle.open_sheet.specs.ReadyLaws.{count-funcs, funcs-inside, above-refl, above-then, ready-above}
+use Rattle.rule7_arguments.specs.Arguments.{Tallied}
+use Rattle.rule7_arguments.specs.ArgumentLaws.{tallied-above}
 use Rattle.law_judging.specs.Clearing.{Clears, clears-start, clears-passed, clears-on, clears-refused}
 use Rattle.rule_frames.specs.declared.Frame as frames
 use Rattle.rule_frames.specs.Frames.{funcOf, Framed, Shaped}
@@ -97,8 +99,8 @@ module _ (b w₀ w₁ : List ℕ) (o : Opened) (c : frames.Frame) (x : Ready (fi
     unfolding Above
     swept-length = sweep-above .len
 
-    pub swept-captured : Captured (firstWords b (o .layout .words)) w₀ o → Captured (firstWords b (o .layout .words)) w₂ o
-    swept-captured = captured-above o (firstWords b (o .layout .words)) w₀ w₂ x sweep-above
+    pub swept-tallied : Tallied (firstWords b (o .layout .words)) w₀ o → Tallied (firstWords b (o .layout .words)) w₂ o
+    swept-tallied = tallied-above (firstWords b (o .layout .words)) w₀ o x w₂ sweep-above
 
 pub swept-shaped : (b w₁ w₂ : List ℕ) (o : Opened) (c : frames.Frame) → Framed (firstWords b (o .layout .words)) c → Marked (firstWords b (o .layout .words)) w₁ w₂ o c →
     Shaped (firstWords b (o .layout .words)) w₁ o c → Shaped (firstWords b (o .layout .words)) w₂ o c
@@ -110,13 +112,18 @@ swept-shaped b w₁ w₂ o c x y z = record {
 
 pub record Coded (ws w₀ w : List ℕ) (o : Opened) (f : ℕ) : Type 0 where
   pub ready : Ready ws w o
-  pub captured : Captured ws w o
+  pub tallied : Tallied ws w o
   pub above : Above o w₀ w
   pub clears : Clears (codeFaults (moduleIn ws)) (moduleIn ws .funcs) f
 
 module _ (ws w₀ : List ℕ) (o : Opened) where
-  pub coded-start : Ready ws w₀ o → Captured ws w₀ o → Coded ws w₀ w₀ o 0
-  coded-start x y = record { ready = x; captured = y; above = above-refl o w₀; clears = clears-start (codeFaults (moduleIn ws)) (moduleIn ws .funcs) }
+  pub coded-start : Ready ws w₀ o → Tallied ws w₀ o → Coded ws w₀ w₀ o 0
+  coded-start x y = record {
+    ready = x;
+    tallied = y;
+    above = above-refl o w₀;
+    clears = clears-start (codeFaults (moduleIn ws)) (moduleIn ws .funcs);
+  }
 
   module _ (w : List ℕ) (f : ℕ) (x : Coded ws w₀ w o f) where
     pub coded-length : length w ≡ length w₀
@@ -129,8 +136,8 @@ module _ (ws w₀ : List ℕ) (o : Opened) where
     pub coded-ready : Ready ws w o
     coded-ready = x .ready
 
-    pub coded-captured : Captured ws w o
-    coded-captured = x .captured
+    pub coded-tallied : Tallied ws w o
+    coded-tallied = x .tallied
 
     pub coded-end : o .counts .funcs ≤ f → Passed ≡ judgedOf (codesFaults (moduleIn ws))
     unfolding codesFaults
@@ -147,7 +154,7 @@ module _ (ws w₀ : List ℕ) (o : Opened) where
       unfolding funcAt
       coded-next e = record {
         ready = ready-above o ws w v (x .ready) a;
-        captured = captured-above o ws w v (x .ready) a (x .captured);
+        tallied = tallied-above ws w o (x .ready) v a (x .tallied);
         above = coded-on;
         clears = clears-on (codeFaults (moduleIn ws)) (moduleIn ws .funcs) f (x .clears) noFunc below e k;
       }
@@ -156,4 +163,4 @@ module _ (ws w₀ : List ℕ) (o : Opened) where
       unfolding codesFaults funcAt
       coded-stop e = clears-refused (codeFaults (moduleIn ws)) (moduleIn ws .funcs) f (x .clears) noFunc below e k
 
-pub ruleset coding = (coded-start, coded-above, coded-ready, coded-captured, coded-end, coded-on, coded-next, coded-stop)
+pub ruleset coding = (coded-start, coded-above, coded-ready, coded-tallied, coded-end, coded-on, coded-next, coded-stop)

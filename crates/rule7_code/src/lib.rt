@@ -7,7 +7,8 @@ ghost use Rattle.blocks.specs.Blocks.{words};
 ghost use Rattle.error.specs.Verdict.{judgedOf};
 ghost use Rattle.code.specs.Callee.{funcAt};
 ghost use Rattle.code.specs.Code.{codeFaults, codesFaults};
-ghost use Rattle.open_sheet.specs.Ready.{Ready, Captured, Above, sheetWords, moduleOf};
+ghost use Rattle.open_sheet.specs.Ready.{Ready, Above, sheetWords, moduleOf};
+ghost use Rattle.rule7_arguments.specs.Arguments.{Tallied};
 ghost use Rattle.rule_frames.specs.Frames.{funcOf, Framed, Shaped};
 ghost use Rattle.rule7_parts.specs.CodeParts.{handlersFaults};
 ghost use Rattle.rule7_code.specs.Sweep.{instsFaults, markAt, Ends, Marked};
@@ -70,7 +71,7 @@ fn mark_handlers(sheet: &[u8], work: &mut [u32], o: Opened, c: Frame)
 fn check_insts(sheet: &[u8], work: &[u32], o: Opened, c: Frame) -> Judged
     requires { ⌜ Ready (sheetWords (now sheet) o) (now work) o ⌝ }
     requires { ⌜ Framed (sheetWords (now sheet) o) c ⌝ }
-    requires { ⌜ Captured (sheetWords (now sheet) o) (now work) o ⌝ }
+    requires { ⌜ Tallied (sheetWords (now sheet) o) (now work) o ⌝ }
     requires { ⌜ Shaped (sheetWords (now sheet) o) (now work) o c ⌝ }
     requires { ⌜ o .layout .words ≤ 520192 ⌝ }
     requires { ⌜ c .func .0 + 1 < 4294967296 ⌝ }
@@ -103,7 +104,7 @@ fn check_insts(sheet: &[u8], work: &[u32], o: Opened, c: Frame) -> Judged
 // The instructions of a function whose handlers hold.
 fn sweep_code(sheet: &[u8], work: &mut [u32], o: Opened, c: Frame) -> Judged
     requires { ⌜ Ready (sheetWords (now sheet) o) (now work) o ⌝ }
-    requires { ⌜ Captured (sheetWords (now sheet) o) (now work) o ⌝ }
+    requires { ⌜ Tallied (sheetWords (now sheet) o) (now work) o ⌝ }
     requires { ⌜ Framed (sheetWords (now sheet) o) c ⌝ }
     requires { ⌜ handlersFaults (funcOf (sheetWords (now sheet) o) c) ≡ [] ⌝ }
     requires { ⌜ o .layout .words ≤ 520192 ⌝ }
@@ -118,7 +119,7 @@ fn sweep_code(sheet: &[u8], work: &mut [u32], o: Opened, c: Frame) -> Judged
 // Function f: the last instruction, handlers, tables, each instruction.
 fn check_code(sheet: &[u8], work: &mut [u32], o: Opened, f: FuncId) -> Judged
     requires { ⌜ Ready (sheetWords (now sheet) o) (now work) o ⌝ }
-    requires { ⌜ Captured (sheetWords (now sheet) o) (now work) o ⌝ }
+    requires { ⌜ Tallied (sheetWords (now sheet) o) (now work) o ⌝ }
     requires { ⌜ f .0 < o .counts .funcs ⌝ }
     requires { ⌜ o .layout .words ≤ 520192 ⌝ }
     ensures { λ r. ⌜ r ≡ judgedOf (codeFaults (moduleOf (now (sheet .entry)) o) (f .0) (funcAt (moduleOf (now (sheet .entry)) o) (f .0))) ⌝ }
@@ -137,7 +138,7 @@ fn check_code(sheet: &[u8], work: &mut [u32], o: Opened, f: FuncId) -> Judged
 // All functions by number. Words of work below 6 * words stay as they are.
 pub fn check_codes(sheet: &[u8], work: &mut [u32], o: Opened) -> Judged
     requires { ⌜ Ready (sheetWords (now sheet) o) (now work) o ⌝ }
-    requires { ⌜ Captured (sheetWords (now sheet) o) (now work) o ⌝ }
+    requires { ⌜ Tallied (sheetWords (now sheet) o) (now work) o ⌝ }
     requires { ⌜ o .layout .words ≤ 520192 ⌝ }
     ensures { λ r. ⌜ r ≡ judgedOf (codesFaults (moduleOf (now (sheet .entry)) o)) ⌝ }
     ensures { λ r. ⌜ Above o (now (work .entry)) (now (work .exit)) ⌝ }

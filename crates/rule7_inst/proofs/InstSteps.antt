@@ -20,7 +20,7 @@ use Rattle.sheet.specs.Module.{opcode, slotA, slotB, slotC, slotW}
 use Rattle.sheet.specs.Module
 use Rattle.open_layout.specs.Opened.{moduleIn}
 use Rattle.open_sheet.specs.declared.Opened.{Opened}
-use Rattle.open_sheet.specs.Ready.{Opens, Ready, Captured}
+use Rattle.open_sheet.specs.Ready.{Opens, Ready}
 use Rattle.open_sheet.specs.ReadyLaws.{count-consts, count-imports, count-globals, count-funcs}
 use Rattle.code.specs.declared.FieldKind.{FieldKind}
 use Rattle.code.specs.declared.FieldKind
@@ -36,6 +36,7 @@ use Rattle.rule7_opcodes.specs.Rules.{ruleOf}
 use Rattle.rule_frames.specs.declared.Frame.{Frame}
 use Rattle.rule_frames.specs.Frames.{funcOf, Framed, Shaped}
 use Rattle.rule7_fields.specs.Fields.{noFaults, kindFaults, slotOf, slotFaults, slotsFaults}
+use Rattle.rule7_arguments.specs.Arguments.{Tallied}
 use Rattle.rule7_callees.specs.Callees.{Checkable}
 use Rattle.rule7_inst.specs.Counted.{Reached, ruleIn}
 
@@ -224,8 +225,9 @@ fields-reach o c i {v} {code} rule l e h k u =
     subst (Reached o c (inst i)) (sym (u ∙ ap (λ n. row n .rule) k))
     (reached o c (inst i) r (left-none a b two) (right-none a b two) (right-none (a ++ b) w three) (r .rule) (row-named (opcode (inst i)) l))
 
-pub checkable : (ws w : List ℕ) (o : Opened) (c : Frame) → Ready ws w o → Framed ws c → Captured ws w o → Shaped ws w o c → o .layout .words ≤ 520192 → Checkable ws w o c
-checkable ws w o c a b d e f = record { ready = a; framed = b; captured = d; shaped = e; few = f }
+pub checkable : (ws w : List ℕ) (o : Opened) (c : Frame) → Ready ws w o → Framed ws c → Tallied ws w o → Shaped ws w o c →
+    o .layout .words ≤ 520192 → Checkable ws w o c
+checkable ws w o c a b d e f = record { ready = a; framed = b; tallied = d; shaped = e; few = f }
 
 -- ── fields, then the rule ──
 

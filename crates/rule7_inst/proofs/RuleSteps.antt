@@ -25,7 +25,7 @@ use Rattle.open_sheet.specs.declared.Opened.{Opened}
 use Rattle.open_sheet.specs.ReadyLaws.{funcs-in, captures-room}
 use Rattle.code.specs.Callee.{funcAt, noFunc}
 use Rattle.code.specs.Opcodes as definitions
-use Rattle.code.specs.Code.{isDynRegister, windowFaults, directFaults, hasKind, ruleFaults}
+use Rattle.code.specs.Code.{isDynRegister, windowFaults, directFaults, importCallFaults, hasKind, ruleFaults}
 use Rattle.rule7_words.specs.declared.Inst.{Inst}
 use Rattle.rule7_opcodes.specs.declared.Rule.{Rule}
 use Rattle.rule7_opcodes.specs.declared.Rule.the-variants.{Free, NoPromote, PromoteToDyn, TailCall, TailCallIndirect, Call, CallIndirect, CallImport, CallShape, MakeClosure, NewStruct, NewArray, NewMap, NewCell, Concatenate, Slice, NotToRef, Catchable, WideBits}
@@ -34,7 +34,7 @@ use Rattle.rule7_opcodes.specs.Rules.{ruleOf}
 use Rattle.rule_frames.specs.declared.Frame.{Frame}
 use Rattle.rule_frames.specs.Frames.{funcOf}
 use Rattle.rule7_numbers.specs.Numbers.{windowIn, promoteFaults, dynFaults, refFaults, raiseFaults, wideFaults, outsideTry}
-use Rattle.rule7_callees.specs.Callees.{wantedFaults, importFaults, Checkable}
+use Rattle.rule7_callees.specs.Callees.{wantedFaults, Checkable}
 use Rattle.rule7_inst.specs.Counted.{Reached, ruleIn}
 use Rattle.rule7_callees.proofs.Words.{value-within, value-dyn, few-args, few-shapes}
 use Rattle.rule7_callees.proofs.CalleeSteps.{callee-few, window-of}
@@ -194,7 +194,7 @@ module _ (b w : List ℕ) (o : Opened) (c : Frame) (x : Checkable (firstWords b 
       module _ {n : ℕ} (s : n ≡ getD w (4 * o .layout .words + g) 0) where
         counted : n ≡ length (funcAt m g .captures)
         unfolding funcAt
-        counted = s ∙ x .captured .captures g noFunc (funcs-in ws w o (x .ready) g reach-closure)
+        counted = s ∙ x .tallied .captured .captures g noFunc (funcs-in ws w o (x .ready) g reach-closure)
 
         pub closure-few : n ≤ 520192
         closure-few = omega (arith, counted, x .few, callee-few b w o (x .ready) g reach-closure)
@@ -231,9 +231,10 @@ module _ (b w : List ℕ) (o : Opened) (c : Frame) (x : Checkable (firstWords b 
     unfolding ruleIn ruleFaults ruleOf
     rule-call {a} {d} {g} e k l p h = by Call e (h ∙ ap3 (λ q s t. verdictOf (directFaults m (funcOf ws c) q (s + 1) t)) p k l)
 
-    pub rule-import : {a d j : ℕ} {r : Verdict} → rule ≡ CallImport → a ≡ slotA (inst i) → d ≡ slotD (inst i) → j ≡ slotW (inst i) → r ≡ verdictOf (importFaults m (funcOf ws c) j (a + 1) d) → Answer rule r
-    unfolding ruleIn ruleFaults ruleOf importFaults
-    rule-import {a} {d} {j} e k l p h = by CallImport e (h ∙ ap3 (λ q s t. verdictOf (importFaults m (funcOf ws c) q (s + 1) t)) p k l)
+    pub rule-import : {a d j : ℕ} {r : Verdict} → rule ≡ CallImport → a ≡ slotA (inst i) → d ≡ slotD (inst i) → j ≡ slotW (inst i) →
+        r ≡ verdictOf (importCallFaults m (funcOf ws c) j (a + 1) d) → Answer rule r
+    unfolding ruleIn ruleFaults ruleOf
+    rule-import {a} {d} {j} e k l p h = by CallImport e (h ∙ ap3 (λ q s t. verdictOf (importCallFaults m (funcOf ws c) q (s + 1) t)) p k l)
 
     -- ── a kind of type ──
 

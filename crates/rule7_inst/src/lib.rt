@@ -6,11 +6,12 @@ ghost use Rattle.error.specs.Verdict.{verdictOf};
 ghost use Rattle.reader.specs.Value.{Whole, valueOf};
 ghost use Rattle.sheet.specs.Module.{opcode};
 ghost use Rattle.sheet.specs.Decode.{instOf};
-ghost use Rattle.open_sheet.specs.Ready.{Ready, Captured, sheetWords, moduleOf};
+ghost use Rattle.open_sheet.specs.Ready.{Ready, sheetWords, moduleOf};
 ghost use Rattle.code.specs.Opcodes.{row};
 ghost use Rattle.code.specs.Code.{fieldsFaults, ruleFaults, unreachable};
 ghost use Rattle.rule7_words.specs.Insts.{inst};
 ghost use Rattle.rule7_opcodes.specs.Rules.{ruleOf};
+ghost use Rattle.rule7_arguments.specs.Arguments.{Tallied};
 ghost use Rattle.rule_frames.specs.Frames.{funcOf, Framed, Shaped};
 ghost use Rattle.rule7_callees.specs.Callees.{Checkable};
 ghost use Rattle.rule7_inst.specs.Counted.{Reached, ruleIn};
@@ -97,7 +98,7 @@ pub fn check_inst(
 ) -> Verdict
     requires { ⌜ Ready (sheetWords (now sheet) o) (now work) o ⌝ }
     requires { ⌜ Framed (sheetWords (now sheet) o) c ⌝ }
-    requires { ⌜ Captured (sheetWords (now sheet) o) (now work) o ⌝ }
+    requires { ⌜ Tallied (sheetWords (now sheet) o) (now work) o ⌝ }
     requires { ⌜ Shaped (sheetWords (now sheet) o) (now work) o c ⌝ }
     requires { ⌜ o .layout .words ≤ 520192 ⌝ }
     requires { ⌜ Whole (instOf (sheetWords (now sheet) o) at) ⌝ }

@@ -13,6 +13,7 @@ use Rattle.error.specs.declared.Verdict.the-variants.{Holds, Broken}
 use Rattle.error.specs.Answer.{unless}
 use Rattle.error.specs.Verdict.{verdictOf}
 use Rattle.code.specs.Code.{promote, toRef, catchableKinds, wideTypes, arityFaults}
+use Rattle.code.specs.ArityLaws.{arity-few, arity-many, arity-right}
 use Rattle.rule7_numbers.specs.Numbers.{windowIn, captureFaults, promoteFaults, dynFaults, refFaults, raiseFaults, wideFaults, outsideTry}
 
 -- ── a test ──
@@ -35,13 +36,18 @@ pub window-broken : (regs first n : ℕ) → regs < first + n → Broken (OutOfR
 unfolding windowIn
 window-broken regs first n h = test-broken (leb (first + n) regs) (OutOfRange Registers (first + n - 1)) (lt-leb (first + n) regs h)
 
-pub arity-holds : (expected found : ℕ) → expected ≡ found → Holds ≡ verdictOf (arityFaults expected found)
-unfolding arityFaults
-arity-holds x y h = test-holds (eqb x y) (ArityMismatch x y) (eq-eqb x y h)
+module _ (least most found : ℕ) where
+  pub few-broken : found < least → Broken (ArityMismatch least found) ≡ verdictOf (arityFaults least most found)
+  unfolding verdictOf
+  few-broken h = sym (ap verdictOf (arity-few least most found h))
 
-pub arity-broken : (expected found : ℕ) → (expected ≡ found → ⊥) → Broken (ArityMismatch expected found) ≡ verdictOf (arityFaults expected found)
-unfolding arityFaults
-arity-broken x y h = test-broken (eqb x y) (ArityMismatch x y) (ne-eqb x y h)
+  pub many-broken : least ≤ found → most < found → Broken (ArityMismatch most found) ≡ verdictOf (arityFaults least most found)
+  unfolding verdictOf
+  many-broken g h = sym (ap verdictOf (arity-many least most found g h))
+
+  pub arity-holds : least ≤ found → found ≤ most → Holds ≡ verdictOf (arityFaults least most found)
+  unfolding verdictOf
+  arity-holds g h = sym (ap verdictOf (arity-right least most found g h))
 
 pub captures-hold : (n : ℕ) → n ≡ 0 → Holds ≡ verdictOf (captureFaults n)
 unfolding captureFaults

@@ -21,16 +21,23 @@ pub fn check_window(c: Frame, first: u32, n: u32) -> Verdict
     Verdict::Broken(LoadErrorKind::OutOfRange(What::Registers, first + n - 1))
 }
 
-pub fn check_arity(expected: u32, found: u32) -> Verdict
-    ensures { λ r. ⌜ r ≡ verdictOf (arityFaults expected found) ⌝ }
+// At least and at most so many arguments; of too few the least was expected, of too many the most.
+pub fn check_arity(least: u32, most: u32, found: u32) -> Verdict
+    ensures { λ r. ⌜ r ≡ verdictOf (arityFaults least most found) ⌝ }
 {
-    if expected == found {
-        return Verdict::Holds;
+    if found < least {
+        return Verdict::Broken(LoadErrorKind::ArityMismatch {
+            expected: least,
+            found: found,
+        });
     }
-    Verdict::Broken(LoadErrorKind::ArityMismatch {
-        expected: expected,
-        found: found,
-    })
+    if most < found {
+        return Verdict::Broken(LoadErrorKind::ArityMismatch {
+            expected: most,
+            found: found,
+        });
+    }
+    Verdict::Holds
 }
 
 // The callee has no captures.

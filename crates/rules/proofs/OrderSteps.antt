@@ -27,9 +27,11 @@ use Rattle.region.specs.Region.{wordAt, Off, Frame}
 use Rattle.region.specs.RegionLaws.{frame-then}
 use Rattle.open_sheet.specs.declared.Opened.{Opened}
 use Rattle.open_sheet.specs.Ready.{Ready, Kept, Above, Captured}
-use Rattle.open_sheet.specs.ReadyLaws.{count-funcs, funcs-inside, ready-below, ready-most, kept-same, above-refl, above-then, ready-above}
-use Rattle.open_sheet.specs.ReadyLaws.{captured-above}
+use Rattle.open_sheet.specs.ReadyLaws.{count-funcs, funcs-inside, callees-inside, ready-below, ready-most, kept-same}
+use Rattle.open_sheet.specs.ReadyLaws.{above-refl, above-then, ready-above, captured-above}
 use Rattle.rule_bodies.specs.Bodies.{Countable}
+use Rattle.rule7_arguments.specs.Arguments.{fewestAt, Fewest, Tallied}
+use Rattle.rule7_arguments.specs.ArgumentLaws.{captured-fewest}
 use Rattle.rule5_imports.specs.Links.{HostEntries, LinkedIf}
 use Rattle.rules.specs.Groups.{frontFaults, recordFaults, endFaults, bodyFaults, LinksKept}
 use Rattle.rules.specs.GroupLaws.{in-groups, front-types, links-ready, links-linked, linked-refused}
@@ -141,45 +143,54 @@ module _ (ws w : List ℕ) (o : Opened) (x : Ready ws w o) where
   abbrev Counted : List ℕ → Type 0
   Counted v = (f : ℕ) → f < o .counts .funcs → wordAt v (4 * o .layout .words) f ≡ length (funcAt (moduleIn ws) f .captures)
 
-  module _ (v : List ℕ) (a : Frame (Off (4 * o .layout .words) (4 * o .layout .words + o .counts .funcs)) w v) (c : Counted v) where
+  -- captures, then the fewest arguments
+  module _ (v : List ℕ) (a : Frame (Off (4 * o .layout .words) (4 * o .layout .words + o .counts .funcs)) w v) where
     pub counted-ready : Ready ws v o
     counted-ready = ready-below ws w o x v (record { len = a .len; same = λ k h. a .same k (λ i j. omega arith) })
 
-    pub counted-captured : Captured ws v o
+    counted-captured : Counted v → Captured ws v o
     unfolding funcAt
-    counted-captured = record {
+    counted-captured c = record {
       captures = λ f d h.
           c f (omega (arith, count-funcs ws o (x .opens)))
           ∙ ap (λ (g : Func). length (g .captures)) (getD-other (moduleIn ws .funcs) f noFunc d h);
     }
 
-    -- code writes above only
+    module _ (u : List ℕ) (b : Frame (Off (fewestAt o) (fewestAt o + o .counts .imports)) v u) where
+      pub tallied-frame : Frame (Off (4 * o .layout .words) (5 * o .layout .words)) w u
+      tallied-frame =
+          let inside = callees-inside ws w o x in
+          frame-then _ _ _ w v u (λ k h i j. h i (omega (arith, inside))) (λ k h i j. h (omega arith) (omega (arith, inside))) a b
+
+      pub tallied : Counted v → Fewest ws u o → Tallied ws u o
+      tallied c f = record { captured = captured-fewest ws v o counted-ready u b (counted-captured c); fewest = f }
+
+  -- code writes above only
+  module _ (v : List ℕ) (a : Frame (Off (4 * o .layout .words) (5 * o .layout .words)) w v) where
+    pub tallied-ready : Ready ws v o
+    tallied-ready = ready-below ws w o x v (record { len = a .len; same = λ k h. a .same k (λ i j. omega arith) })
+
     module _ (u : List ℕ) (b : Above o v u) where
       pub swept-ready : Ready ws u o
-      swept-ready = ready-above o ws v u counted-ready b
+      swept-ready = ready-above o ws v u tallied-ready b
 
-      pub swept-captured : Captured ws u o
-      swept-captured = captured-above o ws v u counted-ready b counted-captured
+      pub swept-captured : Tallied ws v o → Captured ws u o
+      swept-captured y = captured-above o ws v u tallied-ready b (y .captured)
 
       pub swept-links : LinksKept o w u
       unfolding Above LinksKept
-      swept-links =
-          frame-then _ _ _ w v u
-          (λ k h i j. h .0 i (omega (arith, count-funcs ws o (x .opens), funcs-inside ws w o x)))
-          (λ k h. h .1)
-          a
-          b
+      swept-links = frame-then _ _ _ w v u (λ k h. h .0) (λ k h. h .1) a b
 
     -- and so do the marks of names
     pub ended-links : (u t : List ℕ) → Above o v u → Above o u t → LinksKept o w t
     ended-links u t b d = swept-links t (above-then o v u t b d)
 
+pub ruleset tally-order = (countable, counted-ready, tallied-frame, tallied)
+
 pub ruleset body-order = (
   codes-stop,
   ends-last,
-  countable,
-  counted-ready,
-  counted-captured,
+  tallied-ready,
   swept-ready,
   swept-captured,
   swept-links,

@@ -31,6 +31,6 @@ endFaults m = hooksFaults m ++ startFaults m ++ exportsFaults m
 unfoldable pub bodyFaults : Module → List LoadError
 bodyFaults m = codesFaults m ++ endFaults m
 
--- v is w but for the captures' counts, from word 4 * words on, and the words from 6 * words on
+-- v is w but for what is counted before code is judged, from word 4 * words on, and the words from 6 * words on
 unfoldable pub LinksKept : Opened → List ℕ → List ℕ → Type 0
 LinksKept o w v = Frame (λ k. Off (4 * o .layout .words) (5 * o .layout .words) k × (k < 6 * o .layout .words)) w v

@@ -1,16 +1,18 @@
 // The rules in their order.
 ghost use mathlib.Core.Path.{_≡_};
 ghost use mathlib.Core.List.{[]};
-ghost use Prim.Native.Nat.{_≤_};
+ghost use Prim.Native.Nat.{_*_, _≤_};
 ghost use Rattle.blocks.specs.Frame.{firstWords};
 ghost use Rattle.error.specs.Verdict.{judgedOf};
 ghost use Rattle.host.specs.Listed.{hostsIn};
 ghost use Rattle.open_hosts.specs.Sorted.{SortedHosts};
+ghost use Rattle.region.specs.Region.{Off, Frame};
 ghost use Rattle.open_sheet.specs.Ready.{Ready, Captured, Kept, Above, sheetWords, moduleOf};
 ghost use Rattle.types.specs.Types.{typesFaults};
 ghost use Rattle.sheet.specs.Editions.{mostOf};
 ghost use Rattle.parents.specs.Parents.{parentsFaults};
 ghost use Rattle.rule5_imports.specs.Links.{LinkedIf};
+ghost use Rattle.rule7_arguments.specs.Arguments.{Tallied};
 ghost use Rattle.load.specs.Load.{faultsOf};
 ghost use Rattle.rules.specs.Groups.{frontFaults, recordFaults, bodyFaults, endFaults, LinksKept};
 use error::Judged;
@@ -22,6 +24,7 @@ use rule4_consts::check_consts;
 use rule5_globals::check_globals;
 use rule5_imports::check_imports;
 use rule6_funcs::check_funcs;
+use rule7_arguments::index_fewest;
 use rule7_code::check_codes;
 use rule8_exports::check_exports;
 use rule8_hooks::check_hooks;
@@ -111,6 +114,16 @@ fn check_ends(sheet: &[u8], work: &mut [u32], o: Opened) -> Judged
     check_exports(sheet, work, o)
 }
 
+// What code is judged by: the captures of functions and the fewest arguments of imports, each counted once.
+fn tally(sheet: &[u8], work: &mut [u32], o: Opened)
+    requires { ⌜ Ready (sheetWords (now sheet) o) (now work) o ⌝ }
+    ensures { λ r. ⌜ Frame (Off (4 * o .layout .words) (5 * o .layout .words)) (now (work .entry)) (now (work .exit)) ⌝ }
+    ensures { λ r. ⌜ Tallied (sheetWords (now (sheet .entry)) o) (now (work .exit)) o ⌝ }
+{
+    index_captures(sheet, work, o);
+    index_fewest(sheet, work, o);
+}
+
 // Every function's code, then what comes after it.
 fn check_bodies(sheet: &[u8], work: &mut [u32], o: Opened) -> Judged
     requires { ⌜ Ready (sheetWords (now sheet) o) (now work) o ⌝ }
@@ -118,7 +131,7 @@ fn check_bodies(sheet: &[u8], work: &mut [u32], o: Opened) -> Judged
     ensures { λ r. ⌜ r ≡ judgedOf (bodyFaults (moduleOf (now (sheet .entry)) o)) ⌝ }
     ensures { λ r. ⌜ LinksKept o (now (work .entry)) (now (work .exit)) ⌝ }
 {
-    index_captures(sheet, work, o);
+    tally(sheet, work, o);
     match check_codes(sheet, work, o) {
         Judged::Passed => {}
         Judged::Refused(e) => {

@@ -19,3 +19,7 @@ mostOf m = mostOnChain (m .edition)
 -- the names of exports are read in edition 2, and left unread in edition 1
 unfoldable pub readsExportNames : ℕ → Bool
 readsExportNames edition = eqb edition 2
+
+-- the optional arguments of an import may be left out in edition 2, and not in edition 1
+unfoldable pub mayLeaveOut : ℕ → Bool
+mayLeaveOut edition = eqb edition 2

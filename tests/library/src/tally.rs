@@ -2,7 +2,7 @@
 
 use std::fmt;
 
-use compare::Coverage;
+use compare::{leaves_out_arguments, Coverage};
 use sheets::{Edition, Sheet, BLOCK};
 
 /// Counts of a run.
@@ -18,9 +18,10 @@ pub struct Tally {
     pub blocks: Option<(usize, usize)>,
     pub largest_table: usize,
     pub pairs: u64,
-    /// By edition, and those of the second with several exports.
+    /// By edition, and those of the second with several exports, and with optional arguments of an import left out.
     pub accepted_pairs: [u64; 2],
     pub exporting_pairs: u64,
+    pub leaving_out_pairs: u64,
     pub other_kind_pairs: u64,
     pub queries: u64,
     /// Sizes of families that were asked for, and those of them that are kind 25.
@@ -58,6 +59,7 @@ impl Tally {
         self.accepted_pairs[sheet.edition as usize - 1] += 1;
         let exporting = sheet.edition == Edition::Second && sheet.exports.len() > 1;
         self.exporting_pairs += u64::from(exporting);
+        self.leaving_out_pairs += u64::from(leaves_out_arguments(sheet));
     }
 
     fn widen(&mut self, (few, many): (usize, usize)) {
@@ -111,6 +113,10 @@ impl Tally {
                 self.exporting_pairs,
                 "an accepted pair of edition 2 with several exports",
             ),
+            (
+                self.leaving_out_pairs,
+                "an accepted pair of edition 2 that leaves out arguments",
+            ),
             (self.counts - self.broken, "a count of kind 0"),
             (self.broken, "a count of kind 1"),
             (self.not_linked, "a size of kind 25"),
@@ -147,6 +153,7 @@ impl Tally {
         self.pairs += other.pairs;
         add(&mut self.accepted_pairs, &other.accepted_pairs);
         self.exporting_pairs += other.exporting_pairs;
+        self.leaving_out_pairs += other.leaving_out_pairs;
         self.other_kind_pairs += other.other_kind_pairs;
         self.queries += other.queries;
         self.sizes += other.sizes;
@@ -225,9 +232,9 @@ impl fmt::Display for Tally {
         )?;
         writeln!(
             f,
-            "{} renumbered pairs agree, {first} of edition 1 and {second} of edition 2 accepted, {} of these with several exports; \
-             {} refused by two kinds",
-            self.pairs, self.exporting_pairs, self.other_kind_pairs
+            "{} renumbered pairs agree, {first} of edition 1 and {second} of edition 2 accepted, {} of these with several exports \
+             and {} with arguments left out; {} refused by two kinds",
+            self.pairs, self.exporting_pairs, self.leaving_out_pairs, self.other_kind_pairs
         )?;
         writeln!(f, "{} family queries agree", self.queries)?;
         self.fmt_families(f)?;

@@ -1,12 +1,15 @@
-//! Borders at 65,536 fields, registers and exports, of 256 and of 64 types on a chain, of export names, of 24, and of what is a linked
-//! table: the library is held to the reference, or in edition 2 to the format, just below, at and past each.
+//! Borders at 65,536 fields, registers, exports and imports, of 256 and of 64 types on a chain, of arguments of imports, of export names,
+//! of 24, and of what is a linked table: the library is held to the reference, or in edition 2 to the format, just below, at and past
+//! each.
 
 use compare::{length_in, nearest_in, query, size_in};
 use generator::{Case, Rng};
-use sheets::build::{aw, export, func, function, ret_void, strings, structure, user};
+use sheets::build::{
+    aw, export, func, function, import, listed, ret_void, strings, structure, user,
+};
 use sheets::{
-    encode_hosts, encode_sheet, needed, op, with_edition, Edition, ExportKind, Sheet, TypeEntry,
-    ValueType, DYN, STR,
+    encode_hosts, encode_sheet, needed, op, with_edition, Edition, ExportKind, Function, Import,
+    Sheet, TypeEntry, ValueType, DYN, STR,
 };
 use versus::{Checker, Library, Loader};
 
@@ -228,6 +231,150 @@ fn repeats_are_found_however_far_apart() {
         // The first name's bytes once more.
         texts.push(texts[count - 1]);
         assert_eq!(exported(&texts, &after(place)), [28, 0, place]);
+    }
+}
+
+/// Imports of n dyn, of which the first r are mandatory, and a function of so many registers with these calls: import, A and D.
+fn calling(imports: &[(usize, usize)], regs: usize, calls: &[(u32, u16, u8)]) -> Sheet {
+    let mut sheet = Sheet {
+        strings: strings(&["desk", "price"]),
+        types: vec![func(&[], &[])],
+        ..Sheet::default()
+    };
+    for &(r, n) in imports {
+        let own = func(&vec![DYN; n], &[]);
+        if sheet.types.last() != Some(&own) {
+            sheet.types.push(own);
+        }
+        sheet.imports.push(Import {
+            params: listed(&[vec![0; r], vec![2; n - r]].concat()),
+            ..import(0, 1, sheet.types.len() as u32 - 1)
+        });
+    }
+    let call = |&(import, a, d): &_| aw(op::CALL_IMPORT, d, a, import);
+    let mut code: Vec<u64> = calls.iter().map(call).collect();
+    code.push(ret_void());
+    sheet.functions = vec![function(&vec![DYN; regs], &code)];
+    sheet
+}
+
+/// What is agreed on in each edition.
+fn in_each(sheet: &Sheet) -> [[u32; 3]; 2] {
+    let [mut first, mut second] = [case(sheet), case(sheet)];
+    first.sheet = with_edition(&first.sheet, Edition::First.word());
+    second.sheet = with_edition(&second.sheet, Edition::Second.word());
+    [first, second].map(|case| {
+        let [kind, word, number] = agreed(&case);
+        [kind, word, if kind == 0 { 0 } else { number }]
+    })
+}
+
+/// What is to be said of so many arguments where from r to n are right.
+fn arity((r, n): (usize, usize), d: u8) -> [u32; 3] {
+    match usize::from(d) {
+        found if found < r => [8, 0, r as u32],
+        found if found > n => [8, 0, n as u32],
+        _ => [0; 3],
+    }
+}
+
+#[test]
+fn an_import_takes_its_mandatory_arguments_to_all() {
+    for n in [0usize, 1, 2, 3, 126, 127, 128, 254, 255, 256, 257, 300] {
+        for r in [0, 1, 2, n / 2, n.saturating_sub(1), n] {
+            let r = r.min(n);
+            for d in [0, 1, r, r + 1, n, n + 1, 254, 255].map(|d| d.min(255) as u8) {
+                let sheet = calling(&[(r, n)], 257, &[(0, 0, d)]);
+                let expected = [(n, n), (r, n)].map(|counts| arity(counts, d));
+                assert_eq!(in_each(&sheet), expected, "{r} to {n}: {d}");
+            }
+        }
+    }
+}
+
+#[test]
+fn long_lists_are_counted_whole() {
+    for r in BORDER {
+        for d in [0, 1, 255] {
+            let sheet = calling(&[(r, r + 1)], 256, &[(0, 0, d)]);
+            let [all, mandatory] = [r + 1, r].map(|n| [8, 0, n as u32]);
+            assert_eq!(in_each(&sheet), [all, mandatory]);
+        }
+        let sheet = calling(&[(0, r)], 1, &[(0, 0, 0)]);
+        assert_eq!(in_each(&sheet), [[8, 0, r as u32], [0; 3]]);
+    }
+}
+
+#[test]
+fn a_window_ends_with_its_arguments() {
+    for (a, d, last) in [
+        (65_534, 1, 65_535),
+        (65_535, 1, 65_536),
+        (65_535, 0, 65_535),
+    ] {
+        let sheet = calling(&[(0, 2)], 65_536, &[(0, a, d)]);
+        let past = [3, 5, last];
+        let expected = if last > 65_535 {
+            [past; 2]
+        } else {
+            [[8, 0, 2], [0; 3]]
+        };
+        assert_eq!(in_each(&sheet), expected, "{a}, {d}");
+    }
+    // Too many in number too.
+    assert_eq!(
+        in_each(&calling(&[(0, 2)], 3, &[(0, 0, 3)])),
+        [[3, 5, 3]; 2]
+    );
+}
+
+/// Each import has a count of its own, however many there are.
+#[test]
+fn many_imports_have_their_own_counts() {
+    for count in BORDER {
+        let imports: Vec<_> = (0..count).map(|i| (i % 3 % 2, 1)).collect();
+        let last = count as u32 - 1;
+        let places = [0, 1, 2, last / 2, last - 2, last - 1, last];
+        let fewest = |i: u32| imports[i as usize].0 as u8;
+        let all_fewest: Vec<_> = places.iter().map(|&i| (i, 0, fewest(i))).collect();
+        let sheet = calling(&imports, 2, &all_fewest);
+        assert_eq!(in_each(&sheet), [[8, 0, 1], [0; 3]]);
+        for i in places.into_iter().filter(|&i| fewest(i) == 1) {
+            let sheet = calling(&imports, 2, &[&all_fewest[..], &[(i, 0, 0)]].concat());
+            assert_eq!(in_each(&sheet), [[8, 0, 1]; 2]);
+        }
+        let sheet = calling(
+            &imports,
+            2,
+            &[&all_fewest[..], &[(last + 1, 0, 0)]].concat(),
+        );
+        assert_eq!(in_each(&sheet)[1], [3, 6, last + 1]);
+    }
+}
+
+/// What is counted of imports is not mixed with what is counted of functions, however many there are of either.
+#[test]
+fn arguments_and_captures_are_told_apart() {
+    for (imports, functions) in [(3, 5_000), (5_000, 3), (5_000, 5_000)] {
+        let counts: Vec<_> = (0..imports).map(|i| (i % 3, 2)).collect();
+        let calls: Vec<_> = (0..imports).map(|i| (i as u32, 0, (i % 3) as u8)).collect();
+        let mut sheet = calling(&counts, 5, &calls);
+        let closed = |k: usize| Function {
+            captures: vec![DYN; k % 4],
+            ..function(&[], &[ret_void()])
+        };
+        sheet.functions.extend((0..functions).map(closed));
+        // The captures of the last function end with the frame, or one register past it.
+        let made = |a| aw(op::MAKE_CLOSURE, 0, a, functions as u32);
+        let last = (functions - 1) % 4;
+        let code = &mut sheet.functions[0].code;
+        let at = code.len() - 1;
+        code.splice(at..at, [made(4 - last as u16), ret_void()]);
+        assert_eq!(in_each(&sheet), [[8, 0, 2], [0; 3]]);
+        sheet.functions[0].code[at + 1] = made(5 - last as u16);
+        assert_eq!(in_each(&sheet)[1], [3, 5, 5]);
+        sheet.functions[0].code[at + 1] = aw(op::CALL_IMPORT, 0, 0, 2);
+        assert_eq!(in_each(&sheet)[1], [8, 0, 2]);
     }
 }
 

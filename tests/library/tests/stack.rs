@@ -2,8 +2,12 @@
 
 use std::thread;
 
-use sheets::build::{export, structure, user};
-use sheets::{encode_hosts, encode_sheet, refit, with_edition, Edition, ExportKind, Sheet};
+use sheets::build::{
+    aw, export, func, function, import, listed, ret_void, strings, structure, user,
+};
+use sheets::{
+    encode_hosts, encode_sheet, op, refit, with_edition, Edition, ExportKind, Import, Sheet, DYN,
+};
 use versus::{Library, Loader};
 
 /// What the bindings say of short host lists, and something for the thread itself.
@@ -113,6 +117,27 @@ fn many_export_names_fit_the_small_stack() {
     assert_eq!(kind(&sheet), 0);
     sheet.exports.push(own(0));
     assert_eq!(kind(&sheet), 28);
+}
+
+#[test]
+fn many_arguments_fit_the_small_stack() {
+    let mut code = vec![aw(op::CALL_IMPORT, 0, 0, 0); 80_000];
+    code.push(ret_void());
+    let mut sheet = Sheet {
+        edition: Edition::Second,
+        strings: strings(&["", "0"]),
+        types: vec![func(&[], &[]), func(&vec![DYN; 80_000], &[])],
+        imports: vec![Import {
+            params: listed(&vec![2; 80_000]),
+            ..import(0, 1, 1)
+        }],
+        functions: vec![function(&[DYN], &code)],
+        ..Sheet::default()
+    };
+    let kind = |sheet: &Sheet| kind_on(STACK, encode_sheet(sheet).to_bytes(), list(1));
+    assert_eq!(kind(&sheet), 0);
+    sheet.imports[0].params = listed(&[&[0][..], &vec![2; 79_999]].concat());
+    assert_eq!(kind(&sheet), 8);
 }
 
 #[test]

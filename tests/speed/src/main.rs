@@ -8,7 +8,7 @@ use std::process::ExitCode;
 use std::time::Instant;
 
 use paqlluri::{count_structs, load, table_words, Linked, TypeId};
-use shapes::{bytes, Shape, SHAPES};
+use shapes::{bytes, Shape, LEFT_OUT, SHAPES};
 use sheets::{with_edition, Edition};
 
 const USAGE: &str = "usage:
@@ -20,8 +20,9 @@ const USAGE: &str = "usage:
   speed nearest                      the nearest family of two types
   speed report                       what the report asks of a sheet
   speed names                        export names, beside edition 1, which does not read them
+  speed left-out                     calls of an import without its optional arguments, which edition 1 and program.rs refuse
   speed shapes                       their names and largest sizes
-  speed ours|rust|none SHAPE N       one call, for a count of instructions";
+  speed ours|rust|none SHAPE N       one call, for a count of instructions; ours|none left-out N too";
 
 /// A sheet, the same in edition 1 for program.rs, its host list, and what a call is lent.
 struct Lent {
@@ -174,23 +175,44 @@ fn names(shape: &Shape) {
     }
 }
 
+/// As many optional parameters as calls that leave them all out, each size twice the one before.
+fn left_out() {
+    println!("| parameters and calls | blocks | ours µs | growth |");
+    println!("|---|---|---|---|");
+    let mut before = None;
+    for n in [4, 2, 1].map(|d| LEFT_OUT.most / d) {
+        let mut lent = Lent::new(&LEFT_OUT, n);
+        let blocks = lent.sheet.len() / sheets::BLOCK;
+        let ours = least(|| lent.ours().words().len());
+        let growth = before.map_or(String::new(), |before| format!("{:.2}", ours / before));
+        println!("| {n} | {blocks} | {:.1} | {growth} |", ours / 1e3);
+        before = Some(ours);
+    }
+}
+
+/// A shape that program.rs accepts too.
 fn shape(name: &str) -> Option<&'static Shape> {
     SHAPES.iter().find(|s| s.name == name)
+}
+
+/// One call of ours or of program.rs, or none, on a shape of this size.
+fn once(who: &str, name: &str, n: &str) -> Option<()> {
+    let ours_alone = Some(&LEFT_OUT).filter(|s| s.name == name && who != "rust");
+    let mut lent = Lent::new(shape(name).or(ours_alone)?, n.parse().ok()?);
+    match who {
+        "ours" => drop(black_box(lent.ours())),
+        "rust" => std::mem::forget(black_box(lent.rust())),
+        "none" => drop(black_box(lent)),
+        _ => return None,
+    }
+    Some(())
 }
 
 /// None where the arguments are wrong.
 fn run(args: &[String]) -> Option<()> {
     let args: Vec<&str> = args.iter().map(String::as_str).collect();
     match args[..] {
-        [who, name, n] => {
-            let mut lent = Lent::new(shape(name)?, n.parse().ok()?);
-            match who {
-                "ours" => drop(black_box(lent.ours())),
-                "rust" => std::mem::forget(black_box(lent.rust())),
-                "none" => drop(black_box(lent)),
-                _ => return None,
-            }
-        }
+        [who, name, n] => once(who, name, n)?,
         ["descends"] => queries::descends(shape("chains")?),
         ["sizes"] => queries::sizes(shape("chains")?),
         ["lengths"] => queries::lengths(shape("chains")?),
@@ -204,6 +226,7 @@ fn run(args: &[String]) -> Option<()> {
             report(shape("chains")?);
         }
         ["names"] => names(shape("exports")?),
+        ["left-out"] => left_out(),
         ["shapes"] => SHAPES
             .iter()
             .for_each(|s| println!("  {} {}", s.name, s.most)),

@@ -1,10 +1,10 @@
 //! Sheets of one shape and of any size, and their host lists. Every one of them is accepted.
 
 use generator::Rng;
-use sheets::build::{export, func, function, import, ret_void, structure, user};
+use sheets::build::{export, func, function, import, listed, ret_void, structure, user};
 use sheets::{
     build, encode_hosts, encode_sheet, op, renumber, Constant, Edition, ExportKind, Function,
-    Global, Handler, HostEntry, Param, ShapeEntry, Sheet, TypeEntry, ValueType, DYN, STR,
+    Global, Handler, HostEntry, Import, Param, ShapeEntry, Sheet, TypeEntry, ValueType, DYN, STR,
 };
 
 /// What a shape is called, a size that fills most of a sheet, and how it is made.
@@ -105,7 +105,19 @@ pub const SHAPES: &[Shape] = &[
         most: 100_000,
         make: exports,
     },
+    Shape {
+        name: "arguments",
+        most: 120_000,
+        make: arguments,
+    },
 ];
+
+/// Accepted in edition 2 alone.
+pub const LEFT_OUT: Shape = Shape {
+    name: "left-out",
+    most: 100_000,
+    make: left_out,
+};
 
 fn texts(n: usize, stem: &str) -> Vec<Vec<u8>> {
     (0..n).map(|k| format!("{stem}{k}").into_bytes()).collect()
@@ -444,6 +456,39 @@ fn exports(n: usize) -> (Sheet, Vec<HostEntry>) {
         },
         Vec::new(),
     )
+}
+
+/// Imports of so many parameters, all optional, and a function that calls each of them in turn, n calls with so many arguments.
+fn calls(imports: usize, params: usize, n: usize, found: u8) -> (Sheet, Vec<HostEntry>) {
+    let import = Import {
+        params: listed(&vec![2; params]),
+        ..import(0, 0, 1)
+    };
+    let call = |k| build::aw(op::CALL_IMPORT, found, 0, (k % imports) as u32);
+    let mut code: Vec<u64> = (0..n).map(call).collect();
+    code.push(ret_void());
+    let regs = vec![DYN; 1 + usize::from(found)];
+    (
+        Sheet {
+            edition: Edition::Second,
+            strings: vec![Vec::new()],
+            types: vec![func(&[], &[]), func(&vec![DYN; params], &[])],
+            imports: vec![import; imports],
+            functions: vec![function(&regs, &code)],
+            ..Sheet::default()
+        },
+        vec![user("", "")],
+    )
+}
+
+/// n calls with all of 200 optional arguments, of an import for each 200 of them, so that lists take half of the sheet.
+fn arguments(n: usize) -> (Sheet, Vec<HostEntry>) {
+    calls(n.div_ceil(200), 200, n, 200)
+}
+
+/// n calls without any of n optional arguments.
+fn left_out(n: usize) -> (Sheet, Vec<HostEntry>) {
+    calls(1, n, n, 0)
 }
 
 /// The bytes of a sheet and of its host list.

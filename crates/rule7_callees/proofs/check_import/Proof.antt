@@ -1,5 +1,6 @@
 -- `rule7_callees::check_import` meets its contract.
 use borrow.Author.Needs.{needs}
+use Rattle.rule7_arguments.specs.ArgumentLaws.{fewest-room}
 use Rattle.rule7_callees.proofs.CalleeSteps.{import-window, import-arity}
 use Rattle.rule7_callees.proofs.check_import.Statement.{statement}
 use Rattle.rule7_callees.proofs.check_import.Tie as tie
@@ -16,8 +17,15 @@ enum-known-k c = search needs
 returns : tie.Need-returns
 returns c = search (needs, import-window)
 
-import-params-requires : tie.Need-import-params-requires
-import-params-requires c κs = (c .before .before .before .before .before .pre .0 .ready, c .before .before .before .before .before .pre .1 .0)
+fewest-arguments-requires : tie.Need-fewest-arguments-requires
+fewest-arguments-requires c κs =
+    let start = c .before .before .before .before .before in
+    fewest-room _ _ _ (start .pre .0 .ready) _ (start .pre .1 .0)
+
+most-arguments-requires : tie.Need-most-arguments-requires
+most-arguments-requires c κs =
+    let start = c .before .before .before .before .before .before in
+    (start .pre .0 .ready, start .pre .1 .0)
 
 check-arity-requires : tie.Need-check-arity-requires
 check-arity-requires c κs = search needs
@@ -33,6 +41,7 @@ check-import-spec =
     enum-told
     enum-known-k
     returns
-    import-params-requires
+    fewest-arguments-requires
+    most-arguments-requires
     check-arity-requires
     returns-2)

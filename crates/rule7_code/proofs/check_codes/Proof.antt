@@ -3,7 +3,7 @@ use borrow.Author.Needs.{needs}
 use native.Mathlib.Omega.{arith}
 use Prim.Native.Nat.{_-_}
 use Rattle.blocks.specs.Frame.{firstWords}
-use Rattle.rule7_code.proofs.CodeSteps.{Coded, coding, coded-length, coded-ready, coded-captured}
+use Rattle.rule7_code.proofs.CodeSteps.{Coded, coding, coded-length, coded-ready, coded-tallied}
 use Rattle.open_sheet.specs.ReadyLaws.{above-length}
 use Rattle.rule7_code.proofs.check_codes.Statement.{statement}
 use Rattle.rule7_code.proofs.check_codes.Tie as tie
@@ -18,7 +18,10 @@ loop-holds : tie.Need-loop-holds Inv-loop μ-loop
 loop-holds c = search (needs, coding)
 
 check-code-requires : tie.Need-check-code-requires Inv-loop μ-loop
-check-code-requires c κs = (coded-ready _ _ _ _ _ (c .before .before .before .loop .inv), (coded-captured _ _ _ _ _ (c .before .before .before .loop .inv), (c .before .if1 .taken, (c .before .before .before .before .before .before .pre .1 .1))))
+check-code-requires c κs =
+    let loop = c .before .before .before in
+    let start = loop .before .before .before in
+    (coded-ready _ _ _ _ _ (loop .loop .inv), (coded-tallied _ _ _ _ _ (loop .loop .inv), (c .before .if1 .taken, start .pre .1 .1)))
 
 enum-told : tie.Need-enum-told Inv-loop μ-loop
 enum-told c = search (needs, coding)

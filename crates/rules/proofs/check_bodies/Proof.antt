@@ -4,8 +4,8 @@ use Rattle.rules.proofs.check_bodies.Statement.{statement}
 use Rattle.rules.proofs.check_bodies.Tie as tie
 use Rattle.rules.proofs.OrderSteps.{body-order}
 
-index-captures-requires : tie.Need-index-captures-requires
-index-captures-requires c κs = search (needs, body-order)
+tally-requires : tie.Need-tally-requires
+tally-requires c κs = search (needs, body-order)
 
 check-codes-requires : tie.Need-check-codes-requires
 check-codes-requires c κs = search (needs, body-order)
@@ -35,7 +35,7 @@ pub check-bodies-spec : {M : Type 1} → statement M
 check-bodies-spec =
     tie.close
     (tie.spec
-    index-captures-requires
+    tally-requires
     check-codes-requires
     enum-told
     enum-known-e

@@ -50,7 +50,7 @@ pub fn load(
 ) -> Result<Accepted, [u32; 6]> {
     let only = |kind| [kind, 0, 0, 0, 0, 0];
     let (sheet, n) = decode_sheet(bytes).ok_or(only(1))?;
-    // program.rs has the limit of the first edition, and stays as it is.
+    // program.rs has the rules of the first edition, and stays as it is.
     if sheet.edition != Edition::First {
         let Answer { numbers, table } = by_format(bytes, hosts, table_len, work_len);
         let made = Made::Format(table.ok_or(numbers)?);

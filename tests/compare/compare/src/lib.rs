@@ -1,6 +1,7 @@
 //! The reference loader's answers to sheets, and what other loaders are compared with.
 
 mod answer;
+mod arguments;
 mod by_format;
 mod coverage;
 mod descent;
@@ -20,6 +21,7 @@ mod table;
 mod words;
 
 pub use answer::{answer, answer_plain, load, Answer};
+pub use arguments::leaves_out_arguments;
 pub use by_format::by_format;
 pub use coverage::{Coverage, FULL_RUN};
 pub use descent::{chain, descends_by_parents, image};

@@ -123,11 +123,12 @@ fn small_cases(seed: u64, count: u64, most_bytes: usize) -> Vec<StoredCase> {
         let answer = answer(&c.sheet, &c.hosts, c.table_len, c.work_len);
         let [kind, word, ..] = answer.numbers;
         let border = shown_border(&c.sheet, &c.hosts, answer.numbers);
-        // A third may be accepted; another kind, word or border gets one in 100, and more once all were met.
-        let plain = kind == 0 && border.is_none();
-        let share = if plain { count / 3 } else { count / 100 };
+        // A quarter may be accepted at no border; a border, or else another kind or word, gets one in 100, and more once all were met.
+        let aim = border.ok_or((kind, word));
+        let plain = aim == Err((0, 0));
+        let share = if plain { count / 4 } else { count / 100 };
         let most = share.max(1) + index / 5_000;
-        let taken = taken.entry((kind, word, border)).or_default();
+        let taken = taken.entry(aim).or_default();
         if *taken < most {
             *taken += 1;
             cases.push(StoredCase {

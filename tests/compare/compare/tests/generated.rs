@@ -1,12 +1,12 @@
 //! What holds of generated modules.
 
-use compare::{answer_plain, Linked};
+use compare::{answer_plain, leaves_out_arguments, Linked};
 use generator::{faults, valid, Rng, Scale};
 use sheets::{decode_hosts, decode_sheet, encode_hosts, encode_sheet};
 
 #[test]
 fn valid_modules_are_accepted_and_read_back() {
-    let mut several_exports = [0; 2];
+    let (mut several_exports, mut leave_out) = ([0; 2], [0; 2]);
     for index in 0..5000 {
         let mut rng = Rng::new(1, index);
         let scale = Scale::any(&mut rng);
@@ -15,8 +15,9 @@ fn valid_modules_are_accepted_and_read_back() {
         assert_eq!(answer.numbers[0], 0, "case {index}: {:?}", answer.numbers);
         let table = answer.table.expect("accepted");
         assert!(Linked::read(&table).is_some(), "case {index}");
-        several_exports[draft.sheet.edition as usize - 1] +=
-            u32::from(draft.sheet.exports.len() > 1);
+        let edition = draft.sheet.edition as usize - 1;
+        several_exports[edition] += u32::from(draft.sheet.exports.len() > 1);
+        leave_out[edition] += u32::from(leaves_out_arguments(&draft.sheet));
         let words = encode_sheet(&draft.sheet);
         assert!(table.len() + 6 <= 5 * words.words.len(), "case {index}");
         let (sheet, n) = decode_sheet(&words.to_bytes()).expect("whole");
@@ -27,6 +28,8 @@ fn valid_modules_are_accepted_and_read_back() {
     // In the second edition too, where names are read.
     let [first, second] = several_exports;
     assert!(first >= 1_200 && second >= 600, "{first}, {second}");
+    let [first, second] = leave_out;
+    assert!(first == 0 && second >= 350, "{first}, {second}");
 }
 
 #[test]

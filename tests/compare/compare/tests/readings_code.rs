@@ -192,7 +192,7 @@ fn calls_in_order() {
     assert_eq!(under_handler(3, indirect(4))[..3], [3, 5, 3]);
     assert_eq!(under_handler(3, indirect(3)), [15, 0, 0, 0, 1, 1]);
     assert_eq!(code(3, &[indirect(3)])[0], 0);
-    // Imports: window, then arity by the signature's count, whatever is optional (3.21).
+    // Imports: window, then in the first edition arity by the signature's count, whatever is optional (3.21).
     let imported = |d| code(3, &[aw(op::CALL_IMPORT, d, 0, 0), ret]);
     assert_eq!(imported(9), [3, 5, 9, 0, 1, 1]);
     assert_eq!(imported(2), [8, 0, 1, 2, 1, 1]);

@@ -1,8 +1,8 @@
 //! Renumbered pairs as demand 3 says, their nearest families and their chain lengths.
 
 use compare::{
-    answer_plain, asked_numbers, length_difference, length_in, nearest_difference, nearest_in,
-    pair_difference, query,
+    answer_plain, asked_numbers, leaves_out_arguments, length_difference, length_in,
+    nearest_difference, nearest_in, pair_difference, query,
 };
 use generator::{pair, Pair, Rng};
 use sheets::{encode_sheet, renumber, Edition};
@@ -17,6 +17,10 @@ fn compare_pair(pair: &Pair, index: u64) -> (u32, u32) {
     let kinds = (first.numbers[0], second.numbers[0]);
     match (first.table, second.table) {
         (Some(a), Some(b)) => compare_tables(pair, &a, &b, index),
+        // Neither arguments nor names have a type's number.
+        (None, None) if matches!(kinds.0, 8 | 27 | 28) => {
+            assert_eq!(second.numbers, first.numbers, "pair {index}");
+        }
         (None, None) => {}
         _ => panic!("pair {index}: kinds {kinds:?}"),
     }
@@ -38,15 +42,17 @@ fn pairs_agree_as_demand_3_says() {
     let (mut accepted, mut refused, mut other_kind) = (0, 0, 0);
     let mut accepted_second = 0;
     let (mut exported, mut misnamed) = (0, [0; 2]);
+    let (mut leaving_out, mut wrong_count) = (0, 0);
     for index in 0..30_000 {
         let pair = pair(6, index);
         let (first, second) = compare_pair(&pair, index);
-        let in_second = pair.first.sheet.edition == Edition::Second;
+        let sheet = &pair.first.sheet;
+        let in_second = sheet.edition == Edition::Second;
         accepted_second += u32::from(in_second && first == 0);
-        let several_exports = pair.first.sheet.exports.len() > 1;
-        exported += u32::from(in_second && first == 0 && several_exports);
+        exported += u32::from(in_second && first == 0 && sheet.exports.len() > 1);
+        leaving_out += u32::from(first == 0 && leaves_out_arguments(sheet));
+        wrong_count += u32::from(in_second && first == 8);
         if matches!(first, 27 | 28) {
-            assert_eq!(second, first, "pair {index}");
             misnamed[first as usize - 27] += 1;
         }
         match first {
@@ -62,6 +68,8 @@ fn pairs_agree_as_demand_3_says() {
     assert!(in_each >= 5_000, "{accepted_second} of the second edition");
     assert!(exported >= 2_000, "{exported} of them with exports");
     assert!(misnamed.iter().all(|&n| n >= 100), "{misnamed:?}");
+    assert!(leaving_out >= 1_000, "{leaving_out} leave out arguments");
+    assert!(wrong_count >= 100, "{wrong_count} have too few or too many");
     // The refusal's kind may differ, and now and then it does.
     assert!(other_kind > 0);
 }

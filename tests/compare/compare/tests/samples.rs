@@ -33,7 +33,7 @@ fn listed() -> Vec<(String, Vec<u32>)> {
 #[test]
 fn samples_are_answered_as_the_reference_does() {
     let rows = listed();
-    assert_eq!(rows.len(), 32);
+    assert_eq!(rows.len(), 35);
     for (name, expected) in rows {
         let found = match name.as_str() {
             "hosts-twice" => numbers("empty.sheet", "hosts-twice"),

@@ -3,7 +3,8 @@
 use sheets::{encode_hosts, encode_sheet, needed, renumber, HostEntry, Words, MOST_BLOCKS, WORDS};
 
 use crate::borders::{
-    at_border, borders, chains, export_names, several_faults, wide_borders, Border,
+    at_border, borders, chains, export_names, import_arguments, several_faults, wide_borders,
+    Border,
 };
 use crate::bulk::{fill, fill_hosts};
 use crate::damage::{change_edition, change_word, damage_bytes, damage_frame, damage_words};
@@ -25,11 +26,12 @@ pub fn case(seed: u64, index: u64) -> Case {
     let mut rng = Rng::new(seed, index);
     let rng = &mut rng;
     match rng.below(1000) {
-        0..=109 => whole("valid", rng, Scale::any),
-        110..=139 => of_own_edition(rng, &chains()),
-        140..=199 => of_own_edition(rng, &export_names()),
-        200..=329 => faulty(rng, Scale::any),
-        330..=499 => {
+        0..=95 => whole("valid", rng, Scale::any),
+        96..=123 => of_own_edition(rng, &chains()),
+        124..=181 => of_own_edition(rng, &export_names()),
+        182..=251 => of_own_edition(rng, &import_arguments()),
+        252..=364 => faulty(rng, Scale::any),
+        365..=499 => {
             let draft = loose(rng);
             finish("loose".to_string(), rng, draft)
         }

@@ -56,10 +56,12 @@ struct Operands {
 impl Scene<'_> {
     fn instruction(&self, rng: &mut Rng, last: bool) -> u64 {
         for _ in 0..40 {
-            let code = if last {
-                rng.pick(&[0, 1, 2, 3, 4, 6, 7, 8])
-            } else {
-                rng.index(35) as u8
+            let any = rng.index(35) as u8;
+            let code = match last {
+                true => rng.pick(&[0, 1, 2, 3, 4, 6, 7, 8]),
+                // One code with many borders, as far as there are imports.
+                false if rng.one_in(4) => op::CALL_IMPORT,
+                false => any,
             };
             if let Some(o) = self.operands(rng, code) {
                 return sheets::build::aw(code, o.d, o.a, o.w);
@@ -123,11 +125,9 @@ impl Scene<'_> {
             op::LOAD_NAME => high(&mut w, some(rng, self.f.names.len().min(65536))?),
             op::LOAD_CAPTURE => low(&mut w, some(rng, self.f.captures.len().min(65536))?),
             op::CALL_IMPORT => {
-                w = some(rng, sheet.imports.len())?;
-                let sig = sheet.imports[w as usize].sig;
-                let argc = self.draft.signature(sig)?.0.len();
-                d = u8::try_from(argc).ok()?;
+                let (import, argc) = self.imported(rng)?;
                 a = self.register(rng, argc)?;
+                (w, d) = (import, argc as u8);
             }
             op::MAKE_CLOSURE => {
                 w = some(rng, sheet.functions.len())?;
@@ -178,6 +178,18 @@ impl Scene<'_> {
         let f = &functions[at];
         let argc = self.draft.signature(f.sig)?.0.len();
         (f.captures.is_empty() && argc <= 255).then_some((at as u32, argc))
+    }
+
+    /// An import and an argument count that fits it: often its fewest.
+    fn imported(&self, rng: &mut Rng) -> Option<(u32, usize)> {
+        let imports = self.draft.sheet.imports.len();
+        let import = (imports > 0).then(|| rng.index(imports))?;
+        let (fewest, most) = self.draft.arguments(import)?;
+        if fewest > 255 {
+            return None;
+        }
+        let any = rng.within(fewest, most.min(255));
+        Some((import, rng.pick(&[fewest, any])))
     }
 
     /// A type ref of the kind that the code makes.

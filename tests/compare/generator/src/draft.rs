@@ -37,6 +37,18 @@ impl Draft {
         }
     }
 
+    /// The fewest and the most arguments that a call of an import takes.
+    pub fn arguments(&self, import: u32) -> Option<(usize, usize)> {
+        let import = self.sheet.imports.get(import as usize)?;
+        let most = self.signature(import.sig)?.0.len();
+        let list = import.params.as_ref();
+        let fewest = match list.filter(|_| self.sheet.edition.may_leave_out()) {
+            Some(list) => list.iter().filter(|p| !p.is_optional()).count(),
+            None => most,
+        };
+        Some((fewest, most))
+    }
+
     /// A string, found or added.
     pub fn string(&mut self, text: &[u8]) -> u32 {
         let strings = &mut self.sheet.strings;

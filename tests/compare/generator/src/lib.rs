@@ -17,7 +17,9 @@ mod scale;
 mod texts;
 mod valid;
 
-pub use borders::{borders, chains, export_names, several_faults, wide_borders, Border};
+pub use borders::{
+    borders, chains, export_names, import_arguments, several_faults, wide_borders, Border,
+};
 pub use cases::{case, Case};
 pub use draft::Draft;
 pub use faults::{faults, Fault};

@@ -2,7 +2,7 @@
 
 use sheets::renumber;
 
-use crate::borders::{at_border, borders, chains, export_names};
+use crate::borders::{at_border, borders, chains, export_names, import_arguments};
 use crate::cases::faulty_draft;
 use crate::{loose, valid, Draft, Rng, Scale};
 
@@ -23,7 +23,10 @@ pub fn pair(seed: u64, index: u64) -> Pair {
             let scale = Scale::any(rng);
             valid(rng, &scale)
         }
-        6 if rng.coin() => rng.pick(&[chains(), export_names()].concat()).1(rng),
+        6 if rng.coin() => {
+            let own_edition = [chains(), export_names(), import_arguments()].concat();
+            rng.pick(&own_edition).1(rng)
+        }
         6 => at_border(rng, &borders()).1,
         7 => loose(rng),
         _ => faulty_draft(rng, Scale::any).1,

@@ -31,7 +31,7 @@ impl Scale {
             others: 2,
             funcs: 2,
             constants: 2,
-            imports: 1,
+            imports: 2,
             globals: 1,
             functions: 2,
             registers: 4,

@@ -66,11 +66,14 @@ fn add_import(rng: &mut Rng, draft: &mut Draft) {
     let sigs = draft.func_types();
     let strings = draft.sheet.strings.len();
     let (module, name) = (rng.index(strings), rng.index(strings));
-    let sig = rng.pick(&sigs);
+    // Mostly with parameters, so that there is something to leave out.
+    let [one, other] = [rng.pick(&sigs), rng.pick(&sigs)];
+    let length = |&sig: &u32| draft.signature(sig).map_or(0, |s| s.0.len());
+    let sig = if length(&one) > 0 { one } else { other };
     let (params, results) = draft.signature(sig).expect("a func type");
     let schedules = params == [DYN] && results == [DYN];
     let params = params.to_vec();
-    let list = rng.one_in(3).then(|| param_list(rng, draft, &params));
+    let list = (!rng.one_in(3)).then(|| param_list(rng, draft, &params));
     draft.sheet.imports.push(Import {
         module,
         name,

@@ -77,6 +77,12 @@ pub fn import(module: u32, name: u32, sig: u32) -> Import {
     }
 }
 
+/// A parameter list with these flags, without names.
+pub fn listed(flags: &[u32]) -> Option<Vec<Param>> {
+    let param = |&flags: &u32| Param { flags, name: None };
+    Some(flags.iter().map(param).collect())
+}
+
 /// A hook bound to a function.
 pub fn hook_function(hook: u32, index: u32) -> HookBinding {
     HookBinding {

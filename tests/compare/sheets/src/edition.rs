@@ -32,4 +32,9 @@ impl Edition {
     pub fn reads_export_names(self) -> bool {
         self == Edition::Second
     }
+
+    /// Whether a call of an import may leave out its optional arguments.
+    pub fn may_leave_out(self) -> bool {
+        self == Edition::Second
+    }
 }

@@ -61,6 +61,13 @@ pub struct Param {
     pub name: Option<u32>,
 }
 
+impl Param {
+    /// Flag 2; by reference (1) makes none optional.
+    pub fn is_optional(&self) -> bool {
+        self.flags & 2 != 0
+    }
+}
+
 #[derive(Clone, Debug, PartialEq, Eq)]
 pub struct Import {
     pub module: u32,

@@ -1,36 +1,9 @@
 //! Wrong rules of export names are caught, each of which differs from the right one in one thing.
 
-use compare::answer;
-use sheets::{decode_sheet, encode_sheet, Edition, Export, Sheet};
+use sheets::{Edition, Export, Sheet};
 
-use super::{assert_caught_given, relabel};
-
-/// Pairs of exports are looked at one by one, so not in larger sheets.
-const MOST_EXPORTS: usize = 1_000;
-
-fn numbers(sheet: &Sheet, hosts: &[u8]) -> [u32; 6] {
-    let sheet = encode_sheet(sheet).to_bytes();
-    answer(&sheet, hosts, u32::MAX, u32::MAX).numbers
-}
-
-/// A sheet of edition 2 that is to be answered with this kind becomes what a wrong loader takes it for.
-fn misread(
-    sheet: &mut Vec<u8>,
-    hosts: &[u8],
-    right: u32,
-    alter: impl Fn(&mut Sheet, [u32; 6]) -> bool,
-) {
-    let Some((mut plain, _)) = decode_sheet(sheet) else {
-        return;
-    };
-    if plain.edition == Edition::First || plain.exports.len() > MOST_EXPORTS {
-        return;
-    }
-    let numbers = numbers(&plain, hosts);
-    if numbers[0] == right && alter(&mut plain, numbers) {
-        *sheet = encode_sheet(&plain).to_bytes();
-    }
-}
+use super::assert_caught_given;
+use super::misread::{first_read, misread, numbers};
 
 /// No name is read.
 fn unread(sheet: &mut Sheet) -> bool {
@@ -127,15 +100,6 @@ fn one_name(sheet: &mut Vec<u8>, hosts: &[u8], read: fn(&[u8]) -> &[u8]) {
             true
         })
     });
-}
-
-/// Edition 1 is read as 2, where that gives this kind.
-fn first_read(sheet: &mut Vec<u8>, hosts: &[u8], kind: u32) {
-    let mut second = sheet.clone();
-    relabel(&mut second, 1, 2);
-    if answer(&second, hosts, u32::MAX, u32::MAX).numbers[0] == kind {
-        *sheet = second;
-    }
 }
 
 /// What stands before the zero bytes at the end.

@@ -1,6 +1,6 @@
 //! Rule 7: code, one row of fields for each of the 35 codes.
 
-use sheets::{Function, Sheet, TypeEntry};
+use sheets::{Function, Import, Param, Sheet, TypeEntry};
 
 use super::rules::{kind, range, signature, unless, Fault, DYN};
 
@@ -96,34 +96,58 @@ fn fields(sheet: &Sheet, f: &Function, inst: u64) -> Result<(), Fault> {
     Ok(())
 }
 
+/// The list by which arguments of an import may be left out.
+fn optional_list<'s>(sheet: &Sheet, import: &'s Import) -> Option<&'s Vec<Param>> {
+    let list = import.params.as_ref();
+    list.filter(|_| sheet.edition.may_leave_out())
+}
+
+/// Kind 8 unless there are as many arguments as are mandatory, and no more than the signature has parameters.
+fn arity(sheet: &Sheet, sig: u32, list: Option<&Vec<Param>>, found: u8) -> Result<(), Fault> {
+    let most = signature(sheet, sig)?.0.len() as u32;
+    let mandatory = |list: &Vec<Param>| list.iter().filter(|p| !p.is_optional()).count() as u32;
+    let (fewest, found) = (list.map_or(most, mandatory), u32::from(found));
+    unless(fewest <= found, [8, 0, fewest, found, 0, 0])?;
+    unless(found <= most, [8, 0, most, found, 0, 0])
+}
+
+/// So many registers from the first lie in the frame, else the window's last is named.
+fn in_frame(f: &Function, first: usize, n: usize) -> Result<(), Fault> {
+    let last = (first + n).wrapping_sub(1) as u32;
+    unless(first + n <= f.regs.len(), [3, 5, last, 0, 0, 0])
+}
+
+/// Kind 11 unless the type is of the kind that the code makes.
+fn made(t: &TypeEntry, code: u8) -> Result<(), Fault> {
+    let (word, fits) = match code {
+        24 => (1, matches!(t, TypeEntry::Struct { .. })),
+        25 => (2, matches!(t, TypeEntry::Array(_))),
+        26 => (3, matches!(t, TypeEntry::Map(..))),
+        _ => (4, matches!(t, TypeEntry::Cell(_))),
+    };
+    unless(fits, [11, word, 0, 0, 0, 0])
+}
+
 fn own_rule(sheet: &Sheet, f: &Function, inst: u64, position: u32) -> Result<(), Fault> {
     let d = (inst >> 8) as u8;
     let a = (inst >> 16) as usize & 0xffff;
     let b = (inst >> 32) as usize & 0xffff;
     let c = (inst >> 48) as usize;
     let w = (inst >> 32) as usize;
-    // So many registers from the first lie in the frame, else the window's last is named.
-    let window = |first: usize, n: usize| {
-        let last = (first + n).wrapping_sub(1) as u32;
-        unless(first + n <= f.regs.len(), [3, 5, last, 0, 0, 0])
-    };
-    let arity = |sig: u32| {
-        let expected = signature(sheet, sig)?.0.len() as u32;
-        let found = u32::from(d);
-        unless(expected == found, [8, 0, expected, found, 0, 0])
-    };
+    let window = |first: usize, n: usize| in_frame(f, first, n);
     let call = |first: usize| {
         let callee = &sheet.functions[w];
         window(first, d.into())?;
-        arity(callee.sig)?;
+        arity(sheet, callee.sig, None, d)?;
         unless(callee.captures.is_empty(), kind(9))
+    };
+    let call_import = || {
+        let import = &sheet.imports[w];
+        window(a + 1, d.into())?;
+        arity(sheet, import.sig, optional_list(sheet, import), d)
     };
     let covers = |h: &sheets::Handler| h.start <= position && position < h.end;
     let no_handler = || unless(!f.handlers.iter().any(covers), kind(15));
-    let made = |word: u32, fits: fn(&TypeEntry) -> bool| {
-        let t = f.type_refs[b] as usize;
-        unless(fits(&sheet.types[t]), [11, word, 0, 0, 0, 0])
-    };
     match inst as u8 {
         7 => call(a).and_then(|()| no_handler()),
         8 => window(a, d.into()).and_then(|()| no_handler()),
@@ -131,13 +155,10 @@ fn own_rule(sheet: &Sheet, f: &Function, inst: u64, position: u32) -> Result<(),
         10 => unless(d != 3 || f.regs[a] == DYN, kind(10)),
         15 | 20 => call(a + 1),
         16..=19 => window(a + 1, d.into()),
-        21 => window(a + 1, d.into()).and_then(|()| arity(sheet.imports[w].sig)),
+        21 => call_import(),
         22 => window(a + 1, sheet.functions[w].captures.len()),
         23 => window(a + 1, f.shapes[b].len()),
-        24 => made(1, |t| matches!(t, TypeEntry::Struct { .. })),
-        25 => made(2, |t| matches!(t, TypeEntry::Array(_))),
-        26 => made(3, |t| matches!(t, TypeEntry::Map(..))),
-        27 => made(4, |t| matches!(t, TypeEntry::Cell(_))),
+        24..=27 => made(&sheet.types[f.type_refs[b] as usize], inst as u8),
         28 => window(b, d.into()),
         29 => window(c, 2),
         30 => unless(d != 13, kind(12)),

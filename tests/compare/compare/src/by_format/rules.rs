@@ -55,9 +55,10 @@ pub fn param_list(
     params: &[ValueType],
 ) -> Result<(), Fault> {
     let Some(list) = list else { return Ok(()) };
-    let optional = |p: &Param| p.flags & 2 != 0;
     let listed = list.iter().all(|p| p.flags < 4);
-    let ordered = list.windows(2).all(|w| !optional(&w[0]) || optional(&w[1]));
+    let ordered = list
+        .windows(2)
+        .all(|w| !w[0].is_optional() || w[1].is_optional());
     let names: Vec<u32> = list.iter().filter_map(|p| p.name).collect();
     let fits = list.len() == params.len();
     let cell = |v: ValueType| {

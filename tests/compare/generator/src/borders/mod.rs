@@ -1,5 +1,6 @@
 //! Modules at the borders of the rules: on the last number that holds, or one past it.
 
+mod arguments;
 mod calls;
 mod families;
 mod layout;
@@ -42,9 +43,14 @@ pub fn export_names() -> Vec<Border> {
     [names::BORDERS, names::SEVERAL].concat()
 }
 
+/// Arguments of imports in both editions.
+pub fn import_arguments() -> Vec<Border> {
+    [arguments::BORDERS, arguments::SEVERAL].concat()
+}
+
 /// One place with several faults.
 pub fn several_faults() -> Vec<Border> {
-    [several::BORDERS, names::SEVERAL].concat()
+    [several::BORDERS, names::SEVERAL, arguments::SEVERAL].concat()
 }
 
 /// Borders at 65,536, which take hundreds of blocks.

@@ -1,9 +1,11 @@
 //! One record or instruction with several faults: which one is reported shows the order of the tests.
 
-use sheets::build::{abc, aw, export, func, function, hook_function, import, ret_void, strings};
+use sheets::build::{
+    abc, aw, export, func, function, hook_function, import, listed, ret_void, strings,
+};
 use sheets::{
-    op, ExportKind, Function, Handler, HostEntry, Param, ShapeEntry, Sheet, TypeEntry, ValueType,
-    DYN, STR,
+    op, ExportKind, Function, Handler, HostEntry, Import, Param, ShapeEntry, Sheet, TypeEntry,
+    ValueType, DYN, STR,
 };
 
 use super::Border;
@@ -133,11 +135,35 @@ fn one_record(rng: &mut Rng) -> Draft {
     out
 }
 
+/// An import of two dyn, with any list or none.
+fn import_of_two(rng: &mut Rng) -> Import {
+    let lists = [None, listed(&[0, 2]), listed(&[2, 2]), listed(&[0, 0])];
+    Import {
+        params: rng.pick(&lists),
+        ..import(0, 0, 1)
+    }
+}
+
+/// Up to two regions over the first three of four positions.
+fn few_regions(rng: &mut Rng) -> Vec<Handler> {
+    let count = rng.within(0, 2);
+    let region = |_| {
+        let start = rng.index(3);
+        Handler {
+            start,
+            end: start + 1 + rng.index(3 - start as usize),
+            target: 0,
+            catch: 0,
+        }
+    };
+    (0..count).map(region).collect()
+}
+
 /// A call in a small frame, by a random count, of a callee with or without captures, under regions or not.
 fn one_call(rng: &mut Rng) -> Draft {
     let mut out = draft();
     out.hosts.push(sheets::build::user("a", "a"));
-    out.sheet.imports.push(import(0, 0, 1));
+    out.sheet.imports.push(import_of_two(rng));
     let callee = |sig, captures| Function {
         sig,
         captures: vec![DYN; captures],
@@ -164,15 +190,7 @@ fn one_call(rng: &mut Rng) -> Draft {
     let mut lines = vec![ret_void(); 4];
     lines[rng.below(3)] = aw(code, d, a, w);
     let mut caller = function(&vec![DYN; regs], &lines);
-    for _ in 0..rng.within(0, 2) {
-        let start = rng.index(3);
-        caller.handlers.push(Handler {
-            start,
-            end: start + 1 + rng.index(3 - start as usize),
-            target: 0,
-            catch: 0,
-        });
-    }
+    caller.handlers = few_regions(rng);
     out.sheet.functions = vec![
         caller,
         callee(0, 0),

@@ -1,7 +1,7 @@
 //! Borders of parameter lists, scheduler, hooks, start and exports.
 
 use sheets::build::{
-    export, func, function, hook_function, hook_import, import, ret_void, strings,
+    export, func, function, hook_function, hook_import, import, listed, ret_void, strings,
 };
 use sheets::{
     ExportKind, Function, Global, HostEntry, Param, ShapeEntry, Sheet, TypeEntry, ValueType, DYN,
@@ -130,6 +130,7 @@ fn hooks(rng: &mut Rng) -> Draft {
     }
     let mut out = draft(&params, &results);
     out.sheet.imports.push(import(0, 1, 2));
+    out.sheet.imports[0].params = listed(&vec![2; params.len()]).filter(|_| rng.coin());
     out.sheet.functions.push(of_signature(&params));
     out.sheet.functions[0].captures = vec![DYN; captures];
     for _ in 0..rng.within(1, 3) {

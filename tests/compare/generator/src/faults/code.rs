@@ -3,7 +3,7 @@
 use sheets::build::{abc, aw, function, ret_void};
 use sheets::{op, Function, Handler, Table, TypeEntry, ValueType, DYN};
 
-use super::{dynamic, fault, function_mut, place, some_function, Fault};
+use super::{dynamic, fault, function_mut, place, some_function, widen, Fault};
 use crate::{Draft, Rng};
 
 pub const FAULTS: &[Fault] = &[
@@ -13,7 +13,7 @@ pub const FAULTS: &[Fault] = &[
     fault("catch register of 32 bits", 13, 0, wide_catch),
     fault("catch register not dyn", 14, 0, catch_not_dyn),
     fault("table target", 3, 9, table_target),
-    fault("argument count", 8, 0, arity),
+    fault("argument count of a function", 8, 0, arity),
     fault("callee with captures", 9, 0, captures),
     fault("promote", 10, 0, promote),
     fault("no struct", 11, 1, |rng, d| {
@@ -88,35 +88,18 @@ fn table_target(rng: &mut Rng, draft: &mut Draft) {
     f.tables.push(Table { targets, default });
 }
 
-/// Enough registers for a call with so many arguments at A = 0.
-fn widen(f: &mut Function, argc: u8) {
-    while f.regs.len() <= usize::from(argc) {
-        f.regs.push(DYN);
-    }
-}
-
+/// A list of its own makes no argument of a function optional.
 fn arity(rng: &mut Rng, draft: &mut Draft) {
     let callee = some_function(rng, draft);
-    let import = rng.below(draft.sheet.imports.len() + 1);
-    let imported = import < draft.sheet.imports.len();
-    let sig = if imported {
-        draft.sheet.imports[import].sig
-    } else {
-        draft.sheet.functions[callee].sig
-    };
+    let sig = draft.sheet.functions[callee].sig;
     let expected = draft.signature(sig).map_or(0, |s| s.0.len());
     let less = expected.saturating_sub(1);
     let more = if rng.one_in(8) { 255 } else { expected + 2 };
     let found = rng.pick(&[expected + 1, more, less]) as u8;
     let f = function_mut(rng, draft);
     widen(f, found);
-    let inst = if imported {
-        aw(op::CALL_IMPORT, found, 0, import as u32)
-    } else {
-        let code = rng.pick(&[op::CALL, op::TAIL_CALL, op::CORO_NEW]);
-        aw(code, found, 0, callee as u32)
-    };
-    place(rng, f, inst);
+    let code = rng.pick(&[op::CALL, op::TAIL_CALL, op::CORO_NEW]);
+    place(rng, f, aw(code, found, 0, callee as u32));
 }
 
 fn captures(rng: &mut Rng, draft: &mut Draft) {

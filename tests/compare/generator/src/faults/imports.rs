@@ -21,7 +21,7 @@ pub const FAULTS: &[Fault] = &[
 ];
 
 /// Adds an import that is bound to a host entry.
-fn add(rng: &mut Rng, draft: &mut Draft, sig: u32, scheduler: bool) -> usize {
+pub fn add(rng: &mut Rng, draft: &mut Draft, sig: u32, scheduler: bool) -> usize {
     let strings = draft.sheet.strings.len();
     let mut pair = (rng.index(strings), rng.index(strings));
     let text = |draft: &Draft, s: u32| draft.sheet.strings[s as usize].clone();

@@ -1,5 +1,6 @@
 //! Aimed faults: each breaks one rule of a module, which mostly was valid before.
 
+mod arguments;
 mod code;
 mod ends;
 mod exports;
@@ -15,6 +16,7 @@ use sheets::{Function, DYN};
 use crate::{Draft, Rng};
 
 pub use exports::FAULTS as EXPORT_FAULTS;
+pub use imports::add as add_import;
 
 /// A fault and the kind and word that it aims at.
 #[derive(Clone, Copy)]
@@ -41,6 +43,7 @@ pub fn faults() -> Vec<Fault> {
         imports::FAULTS,
         records::FAULTS,
         code::FAULTS,
+        arguments::FAULTS,
         fields::FAULTS,
         ends::FAULTS,
         exports::FAULTS,
@@ -86,6 +89,13 @@ fn place(rng: &mut Rng, f: &mut Function, inst: u64) {
     f.code.insert(at.min(f.code.len()), inst);
     if f.code.len() == 1 {
         f.code.push(ret_void());
+    }
+}
+
+/// Enough registers for a call with so many arguments at A = 0.
+fn widen(f: &mut Function, argc: u8) {
+    while f.regs.len() <= usize::from(argc) {
+        f.regs.push(DYN);
     }
 }
 

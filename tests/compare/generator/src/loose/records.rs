@@ -14,7 +14,7 @@ impl Dice<'_> {
             module: self.number(3),
             name: self.number(3),
             sig,
-            params: self.params(draft, &params),
+            params: (!self.rng.one_in(3)).then(|| self.params(draft, &params)),
         }
     }
 
@@ -28,10 +28,7 @@ impl Dice<'_> {
     }
 
     /// A sound parameter list, or one where each part may be wrong.
-    fn params(&mut self, draft: &Draft, params: &[ValueType]) -> Option<Vec<Param>> {
-        if !self.rng.one_in(3) {
-            return None;
-        }
+    fn params(&mut self, draft: &Draft, params: &[ValueType]) -> Vec<Param> {
         let mut list = param_list(self.rng, draft, params);
         for (p, &v) in list.iter_mut().zip(params) {
             if self.fault() {
@@ -48,7 +45,7 @@ impl Dice<'_> {
         if self.fault() {
             list.pop();
         }
-        Some(list)
+        list
     }
 
     fn shape(&mut self, draft: &Draft) -> Vec<ShapeEntry> {
@@ -74,7 +71,7 @@ impl Dice<'_> {
         let captures = if self.rng.one_in(3) { 2 } else { 0 };
         Function {
             sig,
-            params: self.params(draft, &params),
+            params: self.rng.one_in(3).then(|| self.params(draft, &params)),
             regs,
             shapes: self.times(2).map(|_| self.shape(draft)).collect(),
             captures: self
