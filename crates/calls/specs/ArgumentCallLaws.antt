@@ -44,7 +44,6 @@ use Rattle.load.specs.CodeKinds.{fields-ranges, window-ranges}
 use Rattle.load.specs.KindLaws.{accepted-rules, refused-rules}
 use Rattle.law_faults.specs.Empty.{not-empty, append-empty, map-empty, unless-empty, every, every-from}
 use Rattle.law_faults.specs.Empty.{first-after, first-before, map-first, first-from}
-use Rattle.calls.specs.EditionCalls.{statedEdition}
 use Rattle.calls.specs.ArgumentCalls.{instAt, Stands, CallsImport, CallsFunction, calleeParams, Mismatch, mismatchAt}
 use Rattle.calls.specs.ArgumentCalls.{ArgumentsAnswered, ArgumentsRight}
 
@@ -322,9 +321,6 @@ module _ (m : Module) (f pc expected found : ℕ) where
 -- ── of every call ──
 
 module _ (sheet hosts : List ℕ) (table work : ℕ) (m : Module) (d : decode sheet ≡ some m) where
-  edition-is : m .edition ≡ statedEdition sheet
-  edition-is = decoded-edition sheet m d .0
-
   holds : (l f pc : ℕ) → load sheet hosts table work ≡ Accepted l → Stands m f pc → ownAt m f pc ≡ []
   holds l f pc q s = accepted-rules sheet hosts table work m d l q λ hs h. rule-holds m f pc s (codes-hold m hs h .1)
 
@@ -360,12 +356,13 @@ module _ (sheet hosts : List ℕ) (table work : ℕ) (m : Module) (d : decode sh
         let e = exact p found expected (b .1) in
         (b .0, e .0, e .1);
     listed = λ i ps e l.
-        fewest-mandatory m i (eq-eqb (m .edition) 2 (edition-is ∙ e)) ∙ ap (λ (k : ParamList). mandatory k (mostArguments m i)) l;
+        fewest-mandatory m i (eq-eqb (m .edition) 2 (decoded-edition sheet m d .0 ∙ e))
+        ∙ ap (λ (k : ParamList). mandatory k (mostArguments m i)) l;
     inOrder = λ l j q k.
         accepted-rules sheet hosts table work m d l q λ hs h.
         fewest-few m (importAt m j) (λ ps e. list-fits m hs (importAt m j) ps (import-holds m hs j h k) e);
     unlisted = λ i l. all-given i l (mayLeaveOut (m .edition)) refl;
-    unread = λ i e. fewest-all m i (ne-eqb (m .edition) 2 (λ z. omega (arith, edition-is ∙ e)));
+    unread = λ i e. fewest-all m i (ne-eqb (m .edition) 2 (λ z. omega (arith, decoded-edition sheet m d .0 ∙ e)));
   }
     where
       exact : (params found expected : ℕ) → Mismatch params params found expected → (expected ≡ params) × (found ≡ expected → ⊥)
