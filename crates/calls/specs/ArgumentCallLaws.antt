@@ -44,7 +44,7 @@ use Rattle.load.specs.CodeKinds.{fields-ranges, window-ranges}
 use Rattle.load.specs.KindLaws.{accepted-rules, refused-rules}
 use Rattle.law_faults.specs.Empty.{not-empty, append-empty, map-empty, unless-empty, every, every-from}
 use Rattle.law_faults.specs.Empty.{first-after, first-before, map-first, first-from}
-use Rattle.calls.specs.ArgumentCalls.{instAt, Stands, CallsImport, CallsFunction, calleeParams, Mismatch, mismatchAt}
+use Rattle.calls.specs.ArgumentCalls.{instAt, HasInst, CallsImport, CallsFunction, calleeParams, Mismatch, mismatchAt}
 use Rattle.calls.specs.ArgumentCalls.{ArgumentsAnswered, ArgumentsRight}
 
 -- ── the test of a number ──
@@ -76,13 +76,13 @@ module _ (least most found : ℕ) where
 -- ── what the rule of an instruction asks, where it calls ──
 
 -- a window, the number of arguments, and what has a kind from 9 up
-record Parts (f : Func) (least most n : ℕ) (ks : List LoadErrorKind) : Type 0 where
+record CallParts (f : Func) (least most n : ℕ) (ks : List LoadErrorKind) : Type 0 where
   first : ℕ
   rest : List LoadErrorKind
   later : allOf (λ k. ltb 8 (kindNumber k)) rest ≡ true
   parts : ks ≡ windowFaults f first n ++ arityFaults least most n ++ rest
 
-module _ (f : Func) (least most n : ℕ) (ks : List LoadErrorKind) (p : Parts f least most n ks) where
+module _ (f : Func) (least most n : ℕ) (ks : List LoadErrorKind) (p : CallParts f least most n ks) where
   parts-kept : ks ≡ [] → (least ≤ n) × (n ≤ most)
   parts-kept h =
       let w = windowFaults f (p .first) n in
@@ -100,13 +100,13 @@ module _ (f : Func) (least most n : ℕ) (ks : List LoadErrorKind) (p : Parts f 
       first-after ofRange w a k ys refl g (window-ranges f (p .first) n) λ q. arity-broken least most n expected x ys q
 
 module _ (m : Module) (f : Func) (covered : Bool) (i : Inst) where
-  abbrev own : List LoadErrorKind
-  own = ruleFaults m f covered i (row (opcode i) .rule)
+  abbrev ownFaults : List LoadErrorKind
+  ownFaults = ruleFaults m f covered i (row (opcode i) .rule)
 
-  by-code : (code : ℕ) → opcode i ≡ code → own ≡ ruleFaults m f covered i (row code .rule)
+  by-code : (code : ℕ) → opcode i ≡ code → ownFaults ≡ ruleFaults m f covered i (row code .rule)
   by-code code e = ap (λ (n : ℕ). ruleFaults m f covered i (row n .rule)) e
 
-  import-parts : CallsImport i → let j = importAt m (slotW i) in Parts f (fewestArguments m j) (mostArguments m j) (slotD i) own
+  import-parts : CallsImport i → let j = importAt m (slotW i) in CallParts f (fewestArguments m j) (mostArguments m j) (slotD i) ownFaults
   unfolding ruleFaults row importCallFaults
   import-parts e =
       let faults = importCallFaults m f (slotW i) (slotA i + 1) (slotD i) in
@@ -131,23 +131,23 @@ module _ (m : Module) (f : Func) (covered : Bool) (i : Inst) where
   -- Call and CoroNew
   call-parts : (code : ℕ) → opcode i ≡ code →
       ruleFaults m f covered i (row code .rule) ≡ directFaults m f (slotW i) (slotA i + 1) (slotD i) →
-      Parts f (calleeParams m i) (calleeParams m i) (slotD i) own
+      CallParts f (calleeParams m i) (calleeParams m i) (slotD i) ownFaults
   unfolding directFaults captured
   call-parts code e q = record { first = slotA i + 1; rest = captured; later = captured-later; parts = by-code code e ∙ q }
 
-  tail-parts : opcode i ≡ 7 → Parts f (calleeParams m i) (calleeParams m i) (slotD i) own
+  tail-parts : opcode i ≡ 7 → CallParts f (calleeParams m i) (calleeParams m i) (slotD i) ownFaults
   unfolding ruleFaults row directFaults captured tried
   tail-parts e =
       let n = slotD i in
       let front = windowFaults f (slotA i) n ++ arityFaults (calleeParams m i) (calleeParams m i) n in
       record { first = slotA i; rest = captured ++ tried; later = tried-later; parts = by-code 7 e ∙ append-assoc front captured tried }
 
-  function-parts : CallsFunction i → Parts f (calleeParams m i) (calleeParams m i) (slotD i) own
+  function-parts : CallsFunction i → CallParts f (calleeParams m i) (calleeParams m i) (slotD i) ownFaults
   unfolding ruleFaults row
   function-parts h = any-found (eqb (opcode i)) 0 (7 ∷ 15 ∷ 20 ∷ []) h go
     where
       go : (k : ℕ) → k < 3 → eqb (opcode i) (getD (7 ∷ 15 ∷ 20 ∷ []) k 0) ≡ true →
-          Parts f (calleeParams m i) (calleeParams m i) (slotD i) own
+          CallParts f (calleeParams m i) (calleeParams m i) (slotD i) ownFaults
       go zero l e = tail-parts (eqb-true (opcode i) 7 e)
       go (suc zero) l e = call-parts 15 (eqb-true (opcode i) 15 e) refl
       go (suc (suc zero)) l e = call-parts 20 (eqb-true (opcode i) 20 e) refl
@@ -155,13 +155,13 @@ module _ (m : Module) (f : Func) (covered : Bool) (i : Inst) where
 
 -- ── no instruction is broken ──
 
-abbrev under : Module → ℕ → ℕ → Bool
-under m f pc = anyOf (covers pc) (funcAt m f .handlers)
+abbrev coveredAt : Module → ℕ → ℕ → Bool
+coveredAt m f pc = anyOf (covers pc) (funcAt m f .handlers)
 
-abbrev ownAt : Module → ℕ → ℕ → List LoadErrorKind
-ownAt m f pc = own m (funcAt m f) (under m f pc) (instAt m f pc)
+abbrev ownFaultsAt : Module → ℕ → ℕ → List LoadErrorKind
+ownFaultsAt m f pc = ownFaults m (funcAt m f) (coveredAt m f pc) (instAt m f pc)
 
-rule-holds : (m : Module) (f pc : ℕ) → Stands m f pc → codesFaults m ≡ [] → ownAt m f pc ≡ []
+rule-holds : (m : Module) (f pc : ℕ) → HasInst m f pc → codesFaults m ≡ [] → ownFaultsAt m f pc ≡ []
 unfolding codesFaults codeFaults placedFaults instFaults funcAt instAt
 rule-holds m f pc s h =
     let g = funcAt m f in
@@ -173,7 +173,7 @@ rule-holds m f pc s h =
     let placed = (append-empty (lastFaults f g ++ handlers ++ tables) insts) .0 code .1 in
     let here = (every-from unreachable (placedFaults m f g) (g .code)) .0 placed pc (s .position) in
     let both = (map-empty (atPosition f pc) (instFaults m g pc i)) .0 here in
-    (append-empty (fieldsFaults m g (row (opcode i)) i) (ownAt m f pc)) .0 both .1
+    (append-empty (fieldsFaults m g (row (opcode i)) i) (ownFaultsAt m f pc)) .0 both .1
 
 -- all rules before code
 abbrev beforeCode : ℕ → List HostFn → Module → List LoadError
@@ -256,10 +256,9 @@ parts-elsewhere n f = simp (all-join, unplaced (inFunction n) (λ k. refl), last
     last false = refl
 
 -- an instruction's rule has it first
-record Origin (m : Module) (f pc : ℕ) (k : LoadErrorKind) : Type 0 where
-  stands : Stands m f pc
+record CallOrigin (m : Module) (f pc : ℕ) (k : LoadErrorKind) : Type 0 where
   rest : List LoadErrorKind
-  fault : ownAt m f pc ≡ k ∷ rest
+  fault : ownFaultsAt m f pc ≡ k ∷ rest
 
 module _ (m : Module) (f pc expected found : ℕ) where
   abbrev kind : LoadErrorKind
@@ -273,35 +272,34 @@ module _ (m : Module) (f pc expected found : ℕ) where
   here = ne-eqb (suc pc) 0 (λ z. omega arith)
 
   -- of an instruction
-  inst-origin : (n j : ℕ) → n < length (m .funcs) → j < length (funcAt m n .code) → (us : List LoadError) →
-      placedFaults m n (funcAt m n) j (instAt m n j) ≡ fault ∷ us → Origin m f pc kind
+  inst-origin : (n j : ℕ) (us : List LoadError) → placedFaults m n (funcAt m n) j (instAt m n j) ≡ fault ∷ us → CallOrigin m f pc kind
   unfolding placedFaults instFaults ofRange kindNumber kindNumbers
-  inst-origin n j l q us h =
+  inst-origin n j us h =
       let g = funcAt m n in
       let i = instAt m n j in
+      let fields = fieldsFaults m g (row (opcode i)) i in
       map-first (atPosition n j) (instFaults m g j i) fault us h λ k ks c e.
       let en : n ≡ f = omega (arith, ap (λ (x : LoadError). x .func) e) in
       let ej : j ≡ pc = omega (arith, ap (λ (x : LoadError). x .pc) e) in
       let ek : k ≡ kind = ap (λ (x : LoadError). x .kind) e in
       let d = c ∙ ap (λ (x : LoadErrorKind). x ∷ ks) ek in
-      first-after ofRange (fieldsFaults m g (row (opcode i)) i) (ownAt m n j) kind ks refl d (fields-ranges m g (row (opcode i)) i) λ t.
-      subst (λ (x : ℕ). Origin m x pc kind) en
-      (subst (λ (x : ℕ). Origin m n x kind) ej (record { stands = record { function = l; position = q }; rest = ks; fault = t }))
+      first-after ofRange fields (ownFaultsAt m n j) kind ks refl d (fields-ranges m g (row (opcode i)) i) λ t.
+      subst (λ (x : ℕ). CallOrigin m x pc kind) en (subst (λ (x : ℕ). CallOrigin m n x kind) ej (record { rest = ks; fault = t }))
 
   -- of a function
-  code-origin : (n : ℕ) → n < length (m .funcs) → (zs : List LoadError) → codeFaults m n (funcAt m n) ≡ fault ∷ zs → Origin m f pc kind
+  code-origin : (n : ℕ) (zs : List LoadError) → codeFaults m n (funcAt m n) ≡ fault ∷ zs → CallOrigin m f pc kind
   unfolding codeFaults instAt
-  code-origin n l zs h =
+  code-origin n zs h =
       let g = funcAt m n in
       let handlers = map (inFunction n) (concatMap (handlerFaults g) (g .handlers)) in
       let tables = map (inFunction n) (concatMap (tableFaults g) (g .tables)) in
       let insts = concatMapFrom 0 (placedFaults m n g) (g .code) in
       first-after elsewhere (lastFaults n g ++ handlers ++ tables) insts fault zs here h (parts-elsewhere n g) λ t.
       first-from unreachable 0 (placedFaults m n g) (g .code) fault zs t λ j q b us d.
-      inst-origin n j l q us (subst (λ (p : ℕ). placedFaults m n g p (instAt m n j) ≡ fault ∷ us) (omega arith) d)
+      inst-origin n j us (subst (λ (p : ℕ). placedFaults m n g p (instAt m n j) ≡ fault ∷ us) (omega arith) d)
 
   -- of all rules
-  origin : (most : ℕ) (hosts : List HostFn) (es : List LoadError) → moduleFaults most hosts m ≡ fault ∷ es → Origin m f pc kind
+  origin : (most : ℕ) (hosts : List HostFn) (es : List LoadError) → moduleFaults most hosts m ≡ fault ∷ es → CallOrigin m f pc kind
   unfolding moduleFaults codesFaults hooksFaults startFaults exportsFaults funcAt
   origin most hosts es q =
       let earlier = beforeCode most hosts m in
@@ -316,28 +314,28 @@ module _ (m : Module) (f pc expected found : ℕ) where
       first-before elsewhere codes (hooksFaults m) fault bs here b ofHooks λ cs c.
       first-after elsewhere earlier (codesFaults m) fault cs here c (before-elsewhere most hosts m) λ d.
       first-from noFunc 0 (codeFaults m) (m .funcs) fault cs d λ n l k zs h.
-      code-origin n l zs (subst (λ (p : ℕ). codeFaults m p (getD (m .funcs) n noFunc) ≡ fault ∷ zs) (omega arith) h)
+      code-origin n zs (subst (λ (p : ℕ). codeFaults m p (getD (m .funcs) n noFunc) ≡ fault ∷ zs) (omega arith) h)
 
 -- ── of every call ──
 
 module _ (sheet hosts : List ℕ) (table work : ℕ) (m : Module) (d : decode sheet ≡ some m) where
-  holds : (l f pc : ℕ) → load sheet hosts table work ≡ Accepted l → Stands m f pc → ownAt m f pc ≡ []
+  holds : (l f pc : ℕ) → load sheet hosts table work ≡ Accepted l → HasInst m f pc → ownFaultsAt m f pc ≡ []
   holds l f pc q s = accepted-rules sheet hosts table work m d l q λ hs h. rule-holds m f pc s (codes-hold m hs h .1)
 
   mismatched : (f pc expected found : ℕ) → load sheet hosts table work ≡ mismatchAt f pc expected found →
-      Origin m f pc (ArityMismatch expected found)
+      CallOrigin m f pc (ArityMismatch expected found)
   unfolding ofRules beforeExports judged kindNumber kindNumbers
   mismatched f pc expected found q =
       refused-rules sheet hosts table work m d (atPosition f pc (ArityMismatch expected found)) refl q λ hs es h.
       origin m f pc expected found (mostOf m) hs es h
 
   importParts : (f pc : ℕ) → let i = instAt m f pc in CallsImport i → let j = importAt m (slotW i) in
-      Parts (funcAt m f) (fewestArguments m j) (mostArguments m j) (slotD i) (ownAt m f pc)
-  importParts f pc = import-parts m (funcAt m f) (under m f pc) (instAt m f pc)
+      CallParts (funcAt m f) (fewestArguments m j) (mostArguments m j) (slotD i) (ownFaultsAt m f pc)
+  importParts f pc = import-parts m (funcAt m f) (coveredAt m f pc) (instAt m f pc)
 
   functionParts : (f pc : ℕ) → let i = instAt m f pc in CallsFunction i →
-      Parts (funcAt m f) (calleeParams m i) (calleeParams m i) (slotD i) (ownAt m f pc)
-  functionParts f pc = function-parts m (funcAt m f) (under m f pc) (instAt m f pc)
+      CallParts (funcAt m f) (calleeParams m i) (calleeParams m i) (slotD i) (ownFaultsAt m f pc)
+  functionParts f pc = function-parts m (funcAt m f) (coveredAt m f pc) (instAt m f pc)
 
   answered : ArgumentsAnswered sheet m (load sheet hosts table work)
   unfolding mandatory mayLeaveOut

@@ -23,7 +23,7 @@ unfoldable pub instAt : Module → ℕ → ℕ → Inst
 instAt m f pc = getD (funcAt m f .code) pc unreachable
 
 -- there is one
-pub record Stands (m : Module) (f pc : ℕ) : Type 0 where
+pub record HasInst (m : Module) (f pc : ℕ) : Type 0 where
   pub function : f < length (m .funcs)
   pub position : pc < length (funcAt m f .code)
 
@@ -50,10 +50,10 @@ mismatchAt f pc expected found = Refused (atPosition f pc (ArityMismatch expecte
 -- what the arguments of calls decide of an answer to a sheet that holds m
 pub record ArgumentsAnswered (sheet : List ℕ) (m : Module) (r : Loaded) : Type 0 where
   -- acceptance means that a call of an import has neither too few nor too many
-  pub imports : (l f pc : ℕ) → r ≡ Accepted l → Stands m f pc → let i = instAt m f pc in CallsImport i →
+  pub imports : (l f pc : ℕ) → r ≡ Accepted l → HasInst m f pc → let i = instAt m f pc in CallsImport i →
       (fewestArguments m (importAt m (slotW i)) ≤ slotD i) × (slotD i ≤ mostArguments m (importAt m (slotW i)))
   -- and a direct call of a function as many as its signature has
-  pub functions : (l f pc : ℕ) → r ≡ Accepted l → Stands m f pc → let i = instAt m f pc in CallsFunction i → slotD i ≡ calleeParams m i
+  pub functions : (l f pc : ℕ) → r ≡ Accepted l → HasInst m f pc → let i = instAt m f pc in CallsFunction i → slotD i ≡ calleeParams m i
   -- 8 at a call of an import: the fewest are expected of too few, the most of too many
   pub importMismatch : (f pc expected found : ℕ) → r ≡ mismatchAt f pc expected found → let i = instAt m f pc in CallsImport i →
       (found ≡ slotD i) × Mismatch (fewestArguments m (importAt m (slotW i))) (mostArguments m (importAt m (slotW i))) found expected
