@@ -86,6 +86,17 @@ def table(root):
     return turned
 
 
+# An item of a `use` of the kit's library, and where the kit's modules lie.
+USE = re.compile(r"(?m)^\s*(?:ghost )?(?:pub )?use ([^\s;{]+?)\.\{([^{}]*)\}")
+KIT = re.compile(r"(?:Rattle\.(?:std|core|io|os|libc|std_\w+)\.|mathlib\.|native\.|borrow\.|Prim\.|lib\.)")
+
+
+def lent(text):
+    """The names that a text takes from the kit's library: they stay there."""
+    items = [it.split() for m in USE.finditer(text) if KIT.match(m[1] + ".") for it in m[2].split(",")]
+    return {word for it in items for word in it[:1] + it[2:]}
+
+
 def turn_words(text, turned):
     return WORD.sub(lambda m: turned.get(m[0], m[0]), text)
 
@@ -118,7 +129,8 @@ def main(argv):
         text = read(p)
         short = os.path.relpath(p, os.path.join(root, "crates"))
         new = turn_words(text, {w: w + "_lem" for w, ps in MET.items() if short in ps and w in turned.values()})
-        new = turn(p, new, turned)
+        stay = lent(text)
+        new = turn(p, new, {w: t for w, t in turned.items() if w not in stay})
         if new != text:
             n += 1
             if not check:

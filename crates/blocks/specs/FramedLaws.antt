@@ -2,7 +2,7 @@
 use Rattle.std.specs.Prelude.{ℕ, zero, suc, ◌+◌, ◌-◌, ◌*◌, ◌%◌, ◌≤◌, ◌<◌, ◌≡◌, List, [], ◌∷◌, ◌++◌, map, true, false, cond, ◌&&◌, eqb, leb, ltb, length, get_or, take, drop, replicate}
 use Rattle.std.proofs.Math.Path.{refl, ap}
 use Rattle.std.proofs.Common.{sym, ap₂, ◌∙◌, length-take, length-drop, take-append-drop, length-take-le, eqb-true, leb-true, ltb-true, eq-eqb, le-leb, lt-ltb}
-use Rattle.std.proofs.Math.Bool.{and_false}
+use Rattle.std.proofs.Math.Bool.{and-false}
 use Rattle.std.proofs.Math.Option.{none, some}
 use native.Mathlib.Omega.{arith}
 use Rattle.std.proofs.Math.Seq.{take-nil}
@@ -229,4 +229,4 @@ broken_blocks newest bytes h = rw h
 pub broken_words : (newest : ℕ) (bytes : List ℕ) → intact_words newest (block_count bytes) (words bytes) ≡ false → framed newest bytes ≡ none
 unfolding framed
 broken_words newest bytes h =
-    rw h (ap (λ b. cond b (some (take (length_word (words bytes)) (words bytes))) none) (and_false (intact_blocks bytes)))
+    rw h (ap (λ b. cond b (some (take (length_word (words bytes)) (words bytes))) none) (and-false (intact_blocks bytes)))

@@ -5,7 +5,7 @@ ghost use Rattle.error.specs.Numbers.{six_of};
 
 use crate::{LoadErrorKind, Loaded, TypeKind, What};
 
-#[derive(Drop)]
+#[derive(Clone, Copy)]
 pub struct SixNumbers {
     pub kind: u32,
     pub word: u32,

@@ -4,7 +4,7 @@ ghost use Rattle.exact.specs.Adding.{Spare, Added};
 ghost use Rattle.exact.specs.Exact.{value_of};
 
 // high × 10^18 + low: in print the low word takes 18 digits behind a high word that is not 0.
-#[derive(Drop)]
+#[derive(Clone, Copy)]
 pub struct Total {
     pub high: u64,
     pub low: u64,

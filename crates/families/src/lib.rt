@@ -1,7 +1,7 @@
 // Families by declared parents.
 
 // How many struct types a sheet declares; or its layout is broken.
-#[derive(Drop)]
+#[derive(Clone, Copy)]
 pub enum StructCount {
     Structs(u32),
     Broken,

@@ -16,7 +16,7 @@ use open_types::skip_type;
 use reader::{Step, skip_string};
 
 // The parts whose members are reached by number.
-#[derive(Drop)]
+#[derive(Clone, Copy)]
 pub enum Part {
     Strings,
     Types,
@@ -73,7 +73,7 @@ pub fn index_part(
 }
 
 // Where each part's edges begin in the index, and where the index ends.
-#[derive(Drop)]
+#[derive(Clone, Copy)]
 pub struct Index {
     pub strings: usize,
     pub types: usize,

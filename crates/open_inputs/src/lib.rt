@@ -14,7 +14,7 @@ use load::is_long_enough;
 use open_layout::{Checked, Layout};
 
 // How the inputs are refused, or where the sheet's parts stand and how many words the host list has.
-#[derive(Drop)]
+#[derive(Clone, Copy)]
 pub enum Inputs {
     Refused(LoadErrorKind),
     Intact(Layout, usize),

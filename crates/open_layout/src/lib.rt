@@ -8,7 +8,7 @@ use crate::parts::check_words;
 use blocks::Frame;
 
 // Where the nine parts stand: lists at their counts, start at its word. `words` is N.
-#[derive(Drop)]
+#[derive(Clone, Copy)]
 pub struct Layout {
     pub words: usize,
     pub strings: usize,
@@ -22,7 +22,7 @@ pub struct Layout {
     pub exports: usize,
 }
 
-#[derive(Drop)]
+#[derive(Clone, Copy)]
 pub enum Checked {
     Broken,
     Intact(Layout),

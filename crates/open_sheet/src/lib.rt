@@ -15,7 +15,7 @@ use open_layout::Layout;
 use region::{at, fill};
 
 // How many of each there are.
-#[derive(Drop)]
+#[derive(Clone, Copy)]
 pub struct Counts {
     pub strings: u32,
     pub types: u32,
@@ -25,7 +25,7 @@ pub struct Counts {
     pub funcs: u32,
 }
 
-#[derive(Drop)]
+#[derive(Clone, Copy)]
 pub struct Opened {
     pub edition: u32,
     pub layout: Layout,

@@ -10,7 +10,7 @@ use query::{is_linked, word_at};
 use region::at;
 
 // The nearest family so far, or the count of all types where there is none yet, and how wide its span is.
-#[derive(Drop)]
+#[derive(Clone, Copy)]
 pub struct Candidate {
     family: usize,
     width: usize,

@@ -2,7 +2,7 @@
 use Prim.Native.Nat.{ℕ, zero, suc, ◌+◌, ◌-◌, ◌*◌, ◌/◌, ◌%◌, ◌^◌, ◌≤◌, ◌<◌}
 use mathlib.Core.Path.{◌≡◌, refl, sym, ap, ◌∙◌}
 use mathlib.Core.List.{List, [], ◌∷◌, append-nil}
-use mathlib.Core.Bool.{Bool, true, false, cond, ◌&&◌, and_true, and_false}
+use mathlib.Core.Bool.{Bool, true, false, cond, ◌&&◌, and-true, and-false}
 use native.Mathlib.Omega.{arith}
 use native.Mathlib.Decide.{dec_lt}
 use lib.Dec.{eqb}
@@ -43,10 +43,10 @@ module _ (s : State) (w r : ℕ) where
   ends_with t v left e h = let z : left ≡ 0 = omega arith in e.same ∙ ap (λ n. ends_text (meaning t) n v) z
 
   pub ends_done : (t : State) (v left : ℕ) {x : Bool} → Ends s w r t v left → left ≤ 0 → v ≡ 0 → x ≡ done (meaning t) → x ≡ ends_text (meaning s) r w
-  ends_done t v left {x} e h z k = k ∙ sym (ends_with t v left e h ∙ ap (λ b. done (meaning t) && b) (eq-eqb v 0 z) ∙ and_true (done (meaning t)))
+  ends_done t v left {x} e h z k = k ∙ sym (ends_with t v left e h ∙ ap (λ b. done (meaning t) && b) (eq-eqb v 0 z) ∙ and-true (done (meaning t)))
 
   pub ends_more : (t : State) (v left : ℕ) → Ends s w r t v left → left ≤ 0 → (v ≡ 0 → ⊥) → false ≡ ends_text (meaning s) r w
-  ends_more t v left e h z = sym (ends_with t v left e h ∙ ap (λ b. done (meaning t) && b) (ne_eqb v 0 z) ∙ and_false (done (meaning t)))
+  ends_more t v left e h z = sym (ends_with t v left e h ∙ ap (λ b. done (meaning t) && b) (ne_eqb v 0 z) ∙ and-false (done (meaning t)))
 
 pub ruleset ending = (ends_start, ends_next, ends_done, ends_more)
 
@@ -65,7 +65,7 @@ zero_bytes (suc k) w h =
       where
         more : Dec (0 < w % 256) → (eqb 0 (w % 256) && eqb (w / 256) 0) ≡ eqb w 0
         more (yes q) = rw (ne_eqb 0 (w % 256) (λ e. omega arith)) (sym (ne_eqb w 0 (λ e. omega arith)))
-        more (no q) = ap (λ b. eqb 0 (w % 256) && b) (ne_eqb (w / 256) 0 (λ e. omega arith)) ∙ and_false (eqb 0 (w % 256)) ∙ sym (ne_eqb w 0 (λ e. omega arith))
+        more (no q) = ap (λ b. eqb 0 (w % 256) && b) (ne_eqb (w / 256) 0 (λ e. omega arith)) ∙ and-false (eqb 0 (w % 256)) ∙ sym (ne_eqb w 0 (λ e. omega arith))
 
 ends_bytes : (p : Place) (r k w : ℕ) → r ≤ k → w < 256 ^ k → good_rest p r (bytes_of k w) ≡ ends_text p r w
 unfolding good_rest ends_text after bytes_of
@@ -122,7 +122,7 @@ rest_none p m ws q h e =
 -- nothing more
 rest_over : (p : Place) (m : ℕ) (ws : List ℕ) (q : ℕ) {x : Bool} → m ≡ 0 → done p ≡ x → step_of (text_rest p m ws q) ≡ cond x (Next q) Broken
 unfolding many words_for good_rest after
-rest_over p m ws q z e = ap (λ m. step_of (text_rest p m ws q)) z ∙ rest_is p 0 ws q ∙ ap (λ y. cond y (Next q) Broken) (and_true (done p) ∙ e)
+rest_over p m ws q z e = ap (λ m. step_of (text_rest p m ws q)) z ∙ rest_is p 0 ws q ∙ ap (λ y. cond y (Next q) Broken) (and-true (done p) ∙ e)
 
 -- the last word, of fewer than four bytes
 rest_last : (p : Place) (m : ℕ) (ws : List ℕ) (q : ℕ) {w : ℕ} {x : Bool} → 0 < m → m < 4 → word ws q ≡ got w (q + 1) → w < 4294967296 → ends_text p m w ≡ x

@@ -11,7 +11,7 @@ const TABLE_BEFORE: u32 = 2779096485;
 const WORK_BEFORE: u32 = 1515870810;
 
 // Lengths and answer of a stored case.
-#[derive(Drop)]
+#[derive(Clone, Copy)]
 struct Case {
     sheet: usize,
     hosts: usize,
@@ -21,7 +21,7 @@ struct Case {
     linked: usize,
 }
 
-#[derive(Drop)]
+#[derive(Clone, Copy)]
 enum Replayed {
     Same,
     Different,

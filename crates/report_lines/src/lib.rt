@@ -3,7 +3,7 @@ use error::Loaded;
 use exact::Total;
 
 // On one sheet: the answer to it; how many words its lines take, two for each struct type; how many these are, and their sizes' sum.
-#[derive(Drop)]
+#[derive(Clone, Copy)]
 pub struct SheetReport {
     pub answer: Loaded,
     pub words: usize,
@@ -12,7 +12,7 @@ pub struct SheetReport {
 }
 
 // Both sums over sheets.
-#[derive(Drop)]
+#[derive(Clone, Copy)]
 pub struct Totals {
     pub structs: Total,
     pub sizes: Total,

@@ -13,7 +13,7 @@ use error::{ConstId, LoadErrorKind, StrId, Verdict, string_in};
 use open_sheet::Opened;
 
 // How deep a constant is, or how it is broken first.
-#[derive(Drop)]
+#[derive(Clone, Copy)]
 pub enum Nested {
     Depth(u32),
     Broken(LoadErrorKind),

@@ -25,7 +25,7 @@ use rule_lists::check_params;
 use rule_signatures::{check_signature, is_one_dyn, params_at, results_at};
 
 // The place of an import's function in the host list, or how the import is broken first.
-#[derive(Drop)]
+#[derive(Clone, Copy)]
 pub enum Linked {
     Entry(u32),
     Broken(LoadErrorKind),

@@ -9,7 +9,7 @@ use code::FieldKind::{
 };
 
 // The slots that number something.
-#[derive(Drop)]
+#[derive(Clone, Copy)]
 pub enum Slot {
     A,
     B,

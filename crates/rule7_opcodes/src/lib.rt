@@ -4,7 +4,7 @@ ghost use Rattle.code.specs.Opcodes.{row};
 ghost use Rattle.rule7_opcodes.specs.Rules.{rule_of};
 
 // What an instruction has to keep besides its fields.
-#[derive(Drop)]
+#[derive(Clone, Copy)]
 pub enum Rule {
     Free,
     NoPromote,

@@ -10,7 +10,7 @@ ghost use Rattle.rule7_words.specs.Insts.{inst};
 use blocks::word;
 
 // An instruction's two words.
-#[derive(Drop)]
+#[derive(Clone, Copy)]
 pub struct Inst {
     pub low: u32,
     pub high: u32,

@@ -4,7 +4,7 @@ ghost use Rattle.hooks.specs.Hooks.{hook_shape};
 ghost use Rattle.rule8_shapes.specs.Shapes.{shape};
 
 // How many parameters, and whether there is a result.
-#[derive(Drop)]
+#[derive(Clone, Copy)]
 pub struct Shape {
     pub params: u32,
     pub result: bool,

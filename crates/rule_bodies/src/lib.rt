@@ -17,7 +17,7 @@ use open_types::skip_values;
 use reader::{Step, skip_records};
 
 // The signature, and where the other nine stand: lists at their counts, the parameter list at its 0 or 1.
-#[derive(Drop)]
+#[derive(Clone, Copy)]
 pub struct Body {
     pub sig: TypeId,
     pub regs: usize,
@@ -32,7 +32,7 @@ pub struct Body {
 }
 
 // The parts after the registers, up to the names.
-#[derive(Drop)]
+#[derive(Clone, Copy)]
 pub struct Front {
     pub params: usize,
     pub shapes: usize,
@@ -41,7 +41,7 @@ pub struct Front {
 }
 
 // The parts after the names.
-#[derive(Drop)]
+#[derive(Clone, Copy)]
 pub struct Back {
     pub type_refs: usize,
     pub handlers: usize,

@@ -11,7 +11,7 @@ use open_sheet::{Opened, func_at};
 use rule_bodies::{Body, locate_body};
 
 // The function's number, where its parts stand, and how many members each has.
-#[derive(Drop)]
+#[derive(Clone, Copy)]
 pub struct Frame {
     pub func: FuncId,
     pub body: Body,

@@ -7,14 +7,14 @@ use blocks::word;
 use error::StrId;
 
 // Whose members: of a parameter list, flags and name + 1; of a call shape, kind and name.
-#[derive(Drop)]
+#[derive(Clone, Copy)]
 pub enum ListKind {
     Params,
     Args,
 }
 
 // The name that is read of a member.
-#[derive(Drop)]
+#[derive(Clone, Copy)]
 pub enum Name {
     Nothing,
     Number(StrId),

@@ -6,7 +6,7 @@ ghost use Rattle.reader.specs.Reader.{word};
 ghost use Rattle.sheet_reader.specs.Taken.{taken_of};
 
 // The lent bytes and where the next word stands. Functions over it are proved by hand: they are few and thin.
-#[derive(Drop)]
+#[derive(Clone, Copy)]
 pub struct Reader<'a> {
     pub sheet: &'a [u8],
     pub at: usize,
@@ -44,7 +44,7 @@ pub fn position<'a>(r: Reader<'a>) -> usize
 }
 
 // A word, and where the one after it stands.
-#[derive(Drop)]
+#[derive(Clone, Copy)]
 struct Read {
     value: u32,
     next: usize,
@@ -62,7 +62,7 @@ fn read_word(sheet: &[u8], at: usize) -> Read
 }
 
 // The next of n words and the position after it, or that there is none.
-#[derive(Drop)]
+#[derive(Clone, Copy)]
 pub enum Taken {
     Word(u32, usize),
     Broken,

@@ -17,7 +17,7 @@ use report_lines::{SheetReport, Totals};
 use writing::push;
 
 // How many words were written, and the sum of the sizes among them.
-#[derive(Drop)]
+#[derive(Clone, Copy)]
 pub struct FamilyLines {
     pub words: usize,
     pub sizes: u64,

@@ -15,7 +15,7 @@ use table_types::write_types;
 use writing::push;
 
 // Where the types', imports' and hooks' sections start, and where the last ends.
-#[derive(Drop)]
+#[derive(Clone, Copy)]
 pub struct Front {
     pub types: usize,
     pub imports: usize,
@@ -24,7 +24,7 @@ pub struct Front {
 }
 
 // Where the globals', references' and spans' sections start, and where the last ends.
-#[derive(Drop)]
+#[derive(Clone, Copy)]
 pub struct Back {
     pub globals: usize,
     pub references: usize,

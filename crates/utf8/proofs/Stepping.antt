@@ -2,7 +2,7 @@
 use Prim.Native.Nat.{ℕ, zero, suc, ◌/◌, ◌%◌, ◌≤◌, ◌<◌}
 use mathlib.Core.Path.{◌≡◌, refl, sym, ap, ◌∙◌}
 use mathlib.Core.List.{List, [], ◌∷◌, Memᴰ}
-use mathlib.Core.Bool.{Bool, true, false, cond, ◌&&◌, and_true, and_false}
+use mathlib.Core.Bool.{Bool, true, false, cond, ◌&&◌, and-true, and-false}
 use native.Mathlib.Omega.{arith}
 use types.Run.{OneOf, miss}
 use denote.Enum.Declared.{tag_of}
@@ -71,7 +71,7 @@ module _ (b : ℕ) where
   unfolding meaning begin
   first_tail l u = simp (
     lt-leb b 0x7F (omega arith),
-    and_false,
+    and-false,
     lt-leb 0xC2 b (omega arith),
     lt-leb 0xE0 b (omega arith),
     lt-leb 0xE1 b (omega arith),
@@ -94,7 +94,7 @@ module _ (b : ℕ) where
     lt-leb b 0xF0 (omega arith),
     lt-leb b 0xF3 (omega arith),
     lt-leb b 0xF4 (omega arith),
-    and_false,
+    and-false,
   )
 
 pub ruleset firsts = (first_done, first_tail1, first_e0, first_tail2, first_e_d, first_tail2_late, first_f0, first_tail3, first_f4, first_tail, first_past)
@@ -181,7 +181,7 @@ module _ (w : ℕ) where
   unfolding ascii octets
   ascii_last f g h =
       rw (lt-ltb (w % 256) 0x80 f, lt-ltb (w / 256 % 256) 0x80 g, lt-ltb (w / 256 / 256 % 256) 0x80 h)
-      (sym (and_true (ltb (w / 256 / 256 / 256 % 256) 0x80)))
+      (sym (and-true (ltb (w / 256 / 256 / 256 % 256) 0x80)))
 
 pub ruleset asciis = (ascii_not1, ascii_not2, ascii_not3, ascii_last)
 
