@@ -1,4 +1,6 @@
 // A sheet of the most blocks, 4,096, is intact; the like of one block more is broken.
+#![tactic(auto)]
+
 ghost use Rattle.std.specs.Prelude.{◌≤◌, ◌<◌, length};
 
 use libc::STDOUT_FILENO;
