@@ -1,7 +1,7 @@
 """What tests/readme asks of docs/FORMAT.md: its examples are what the programs give, its tables are those of the definitions, of README.md
 and of the C header; and that what editions decide is the same everywhere."""
 import os, re, subprocess, sys, tempfile
-from tally import ROOT, compare
+from tally import ROOT, built, compare
 sys.path.insert(0, ROOT + '/tools')
 from sheetform.blocks import EDITIONS, MAY_LEAVE_OUT, MOST_ON_CHAIN
 
@@ -107,7 +107,7 @@ def linked(sheet, hosts):
     with tempfile.TemporaryDirectory() as where:
         with open(where + '/hosts', 'wb') as f:
             f.write(hosts)
-        printed = subprocess.run([ROOT + '/target/bin/linker'], cwd=where, input=sheet, stdout=subprocess.PIPE).stdout
+        printed = subprocess.run([f"{ROOT}/{built('linker')}"], cwd=where, input=sheet, stdout=subprocess.PIPE).stdout
     return list(map(int, printed.split()))
 
 def sheet_of(source):
@@ -162,7 +162,7 @@ def examples():
 def reported():
     shown = re.search(r'no bytes: ((?:`[\d ]+`(?:, )?)+)\.', section('The report')).group(1)
     stored = ROOT + '/crates/report/data'
-    r = subprocess.run([ROOT + '/target/bin/report', 'root-last', 'none'], cwd=stored, stdout=subprocess.PIPE, text=True)
+    r = subprocess.run([f"{ROOT}/{built('report')}", 'root-last', 'none'], cwd=stored, stdout=subprocess.PIPE, text=True)
     compare(f'{FORMAT}: the lines of the report', re.findall('`(.*?)`', shown), r.stdout.splitlines())
 
 # a call of an import with a mandatory parameter and an optional one
