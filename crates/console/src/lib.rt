@@ -1,4 +1,6 @@
 // What programs share: input of at most 16 blocks, and the six numbers in print.
+#![tactic(auto)]
+
 ghost use Rattle.std.specs.Prelude.{◌≤◌};
 ghost use Rattle.io.specs.Counts.{IsPrefixLen};
 
