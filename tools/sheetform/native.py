@@ -80,8 +80,8 @@ def crates():
 
 # code, definitions and proofs of these crates, and their folders, whose time changes where a file goes
 def newest():
-    below = [path for crate in crates() for part in ('src', 'specs', 'proofs')
-             for path in glob.glob(f'{ROOT}/crates/{crate}/{part}/**', recursive=True)]
+    parts = [f'{ROOT}/crates/{crate}/{part}' for crate in crates() for part in ('src', 'specs', 'proofs')]
+    below = [path for part in parts if os.path.isdir(part) for path in glob.glob(part + '/**', recursive=True)]
     return max(map(os.path.getmtime, [ROOT + '/crates.txt', *below]))
 
 def prove(tool):
