@@ -1,5 +1,7 @@
 // Prints of each file that the arguments name whether it is an intact sheet, and then N and the counts of its parts:
 // strings, types, constants, imports, globals, functions, hooks, start + 1, exports.
+#![tactic(auto)]
+
 use blocks::word;
 use libc::STDOUT_FILENO;
 use open_layout::{Checked, Layout};
