@@ -70,14 +70,14 @@ def reached(table, crate):
             todo += table[c].uses
     return out
 
-# a '#' heading a layer, then a line a crate: all that it may use, in the tables' order
+# a '#' heading a layer, then a line a crate: what its files name, in the tables' order; rt goes every way down, so no more is listed
 def listing(table):
     lines, layer = [], None
     for name, row in table.items():
         if row.layer != layer:
             lines += ([''] if layer else []) + ['# ' + row.layer]
             layer = row.layer
-        below = reached(table, name)
+        below = edges(name)
         lines.append(' '.join([name + (' staticlib:' if name in STATIC else ':')] + [c for c in table if c in below]))
     return '\n'.join(lines) + '\n'
 
