@@ -8,7 +8,6 @@ use lib.Seq.{take-length}
 use Rattle.law_faults.specs.Empty.{append_empty}
 use Rattle.error.specs.declared.LoadError.{LoadError}
 use Rattle.error.specs.declared.Judged.{Judged}
-use Rattle.error.specs.declared.Judged.TheVariants as Judged
 use Rattle.error.specs.declared.Loaded.TheVariants.{Accepted, Refused}
 use Rattle.error.specs.Answer.{first}
 use Rattle.error.specs.Verdict.{judged_of}

@@ -6,13 +6,9 @@ use Rattle.blocks.specs.Frame.{first_words}
 use Rattle.error.specs.declared.Loaded.{Loaded}
 use Rattle.host.specs.Host.{HostFn}
 use Rattle.open_layout.specs.declared.Layout.{Layout}
-use Rattle.open_layout.specs.Layout.{layout}
 use Rattle.open_layout.specs.Opened.{module_in}
 use Rattle.open_sheet.specs.declared.Opened.{Opened}
 use Rattle.open_sheet.specs.Ready.{Ready}
-use Rattle.load.specs.Load as load
-use Rattle.load.specs.Load.{opened}
-use Rattle.open_inputs.specs.declared.Inputs.TheVariants as Inputs
 use Rattle.load_intact.specs.Linking.{Fits, answered, table_left}
 
 -- ── a sheet that was opened ──

@@ -1,4 +1,6 @@
 // An intact sheet under an intact host list: the rules, then the linked table.
+#![tactic(auto)]
+
 ghost use Rattle.std.specs.Prelude.{◌≡◌, ◌+◌, ◌*◌, ◌≤◌, length};
 ghost use Rattle.blocks.specs.Blocks.{words};
 ghost use Rattle.blocks.specs.Frame.{first_words};

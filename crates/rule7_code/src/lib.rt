@@ -1,4 +1,6 @@
 // Rule 7 in code: functions by number.
+#![tactic(auto)]
+
 ghost use Rattle.std.specs.Prelude.{◌≡◌, [], ◌+◌, ◌*◌, ◌≤◌, ◌<◌, max, length, get_or, set};
 ghost use Rattle.blocks.specs.Blocks.{words};
 ghost use Rattle.error.specs.Verdict.{judged_of};

@@ -1,16 +1,15 @@
 -- The three groups are all the rules: after rule 3 the walk has met every struct. What is kept in work from one group to the next.
-use Rattle.std.specs.Prelude.{ℕ, ◌+◌, ◌*◌, ◌≤◌, ◌<◌, ◌≡◌, refl, List, [], ◌∷◌, ◌++◌, length}
-use Rattle.std.proofs.Common.{sym, ◌∙◌, append_assoc, arith}
+use Rattle.std.specs.Prelude.{ℕ, ◌+◌, ◌*◌, ◌≡◌, refl, List, [], ◌∷◌, ◌++◌}
+use Rattle.std.proofs.Common.{◌∙◌, append_assoc, arith}
 use Rattle.std.proofs.Math.Path.{ap}
 use Rattle.law_faults.specs.Empty.{append_empty}
 use Rattle.error.specs.declared.LoadError.{LoadError}
 use Rattle.error.specs.declared.Judged.{Judged}
 use Rattle.error.specs.declared.Judged.TheVariants.{Passed, Refused}
 use Rattle.error.specs.Verdict.{judged_of}
-use Rattle.error.specs.VerdictLaws.{none_refused, judged_then, judged_stop}
+use Rattle.error.specs.VerdictLaws.{none_refused}
 use Rattle.sheet.specs.Module.{Module}
 use Rattle.host.specs.Host.{HostFn}
-use Rattle.open_layout.specs.Opened.{module_in}
 use Rattle.types.specs.Types.{types_faults}
 use Rattle.sheet.specs.Editions.{most_of}
 use Rattle.sheet.specs.EditionLaws.{most_from_one}
@@ -23,11 +22,10 @@ use Rattle.code.specs.Code.{codes_faults}
 use Rattle.hooks.specs.Hooks.{hooks_faults, start_faults, exports_faults}
 use Rattle.load.specs.Load.{module_faults, faults_of}
 use Rattle.law_forest.specs.Accepted.{walk_complete}
-use Rattle.region.specs.Region.{Frame}
 use Rattle.open_sheet.specs.declared.Opened.{Opened}
-use Rattle.open_sheet.specs.Ready.{Ready, Kept}
+use Rattle.open_sheet.specs.Ready.{Ready}
 use Rattle.open_sheet.specs.ReadyLaws.{ready_below, imports_inside}
-use Rattle.rule5_imports.specs.Links.{HostEntries, LinkedIf}
+use Rattle.rule5_imports.specs.Links.{LinkedIf}
 use Rattle.rules.specs.Groups.{front_faults, record_faults, end_faults, body_faults, LinksKept}
 
 -- ── the order ──

@@ -1,4 +1,6 @@
 // The rules in their order.
+#![tactic(auto)]
+
 ghost use Rattle.std.specs.Prelude.{◌≡◌, [], ◌*◌, ◌≤◌};
 ghost use Rattle.blocks.specs.Frame.{first_words};
 ghost use Rattle.error.specs.Verdict.{judged_of};

@@ -1,6 +1,6 @@
 -- Sections side by side, and the header before them.
 use Prim.Native.Nat.{ℕ, zero, suc, ◌+◌, ◌-◌, ◌*◌, ◌≤◌, ◌<◌}
-use mathlib.Core.Path.{◌≡◌, refl, sym, ap, ap₂, subst, ◌∙◌}
+use mathlib.Core.Path.{◌≡◌, refl, sym, ap, ap₂, ◌∙◌}
 use mathlib.Core.List.{List, [], ◌∷◌, ◌++◌, append_assoc, append-nil}
 use native.Mathlib.Omega.{arith}
 use native.Mathlib.Decide.{dec_lt}
@@ -12,17 +12,17 @@ use Rattle.code.specs.Callee.{import_at}
 use Rattle.writing.specs.Writing.{written}
 use Rattle.writing.specs.WritingLaws.{written_then, join_first, join_room, join_written, join_place, written_length, written_at, written_after, written_by}
 use Rattle.region.specs.Region.{Off, Frame}
-use Rattle.region.specs.RegionLaws.{frame_refl, frame_then}
+use Rattle.region.specs.RegionLaws.{frame_then}
 use Rattle.open_layout.specs.Opened.{module_in}
 use Rattle.table.specs.Table.{starts_from, joined, hook_section, canon_section, global_section, reference_section, spans_of}
 use Rattle.open_sheet.specs.declared.Opened.{Opened}
-use Rattle.open_sheet.specs.Ready.{Ready, Opens}
+use Rattle.open_sheet.specs.Ready.{Ready}
 use Rattle.open_sheet.specs.ReadyLaws.{ready_below, imports_inside}
 use Rattle.table_all.specs.declared.Front.{Front}
 use Rattle.table_all.specs.declared.Back.{Back}
 use Rattle.table_imports.specs.SectionLaws.{canon_length, hook_length}
 use Rattle.table_imports.specs.Sections.{linked_import, linked_imports, each_of}
-use Rattle.table_all.specs.Parts.{Clear, func_section, type_section, front_words, back_words, FrontAt, BackAt, Small, header_of, table_by}
+use Rattle.table_all.specs.Parts.{func_section, type_section, front_words, back_words, FrontAt, BackAt, Small, header_of, table_by}
 
 -- ── four writes in a row ──
 

@@ -1,9 +1,8 @@
 -- The linked table in two halves and a header, as code writes it.
-use Rattle.std.specs.Prelude.{ℕ, ◌+◌, ◌*◌, ◌≤◌, ◌<◌, ◌≡◌, List, [], ◌∷◌, ◌++◌, length, get_or}
+use Rattle.std.specs.Prelude.{ℕ, ◌+◌, ◌<◌, ◌≡◌, List, [], ◌∷◌, ◌++◌, length}
 use Rattle.reader.specs.Reader.{encode_list}
 use Rattle.sheet.specs.Module.{Module}
 use Rattle.open_layout.specs.Opened.{module_in}
-use Rattle.error.specs.declared.LoadError.{LoadError}
 use Rattle.types.specs.Types.{types_faults}
 use Rattle.sheet.specs.Editions.{most_of}
 use Rattle.parents.specs.Parents.{parents_faults}

@@ -1,4 +1,6 @@
 // The linked table: eight sections, then the header before them.
+#![tactic(auto)]
+
 ghost use Rattle.std.specs.Prelude.{◌≡◌, [], ◌∷◌, ◌+◌, ◌*◌, ◌≤◌, ◌<◌, length};
 ghost use Rattle.region.specs.Region.{Frame};
 ghost use Rattle.open_sheet.specs.Ready.{Ready, sheet_words, module_of};

@@ -1,4 +1,6 @@
 // The functions of the linked table, a record each.
+#![tactic(auto)]
+
 ghost use Rattle.std.specs.Prelude.{◌≡◌, [], ◌+◌, ◌*◌, ◌≤◌, ◌<◌, length};
 ghost use Rattle.reader.specs.Reader.{encode_list};
 ghost use Rattle.open_sheet.specs.Ready.{Ready, sheet_words, module_of};

@@ -1,4 +1,6 @@
 // The sections of globals of the linked table.
+#![tactic(auto)]
+
 ghost use Rattle.std.specs.Prelude.{◌≡◌, [], ◌+◌, ◌≤◌, length};
 ghost use Rattle.imports.specs.Imports.{globals_faults};
 ghost use Rattle.open_sheet.specs.Ready.{Opens, Ready, sheet_words, module_of};

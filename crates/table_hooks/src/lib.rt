@@ -1,4 +1,6 @@
 // The section of hooks of the linked table: 31 words, 0 where none is bound.
+#![tactic(auto)]
+
 ghost use Rattle.std.specs.Prelude.{◌≡◌, ℕ, ◌+◌, ◌*◌, ◌≤◌, ◌<◌, length, get_or, set};
 ghost use Rattle.blocks.specs.Blocks.{words};
 ghost use Rattle.region.specs.Region.{Off, Frame, word_at};

@@ -1,7 +1,6 @@
 -- Imports, hooks and canonical numbers of the linked table, as code writes them.
 use Rattle.std.specs.Prelude.{ℕ, ◌+◌, ◌*◌, ◌<◌, ◌≡◌, List, [], ◌∷◌, Bool, true, ltb, length, get_or}
 use Rattle.lists.specs.Lists.{all_of, concat_map, from}
-use Rattle.blocks.specs.Blocks.{words}
 use Rattle.sheet.specs.Module.{TypeDef, Hook, Module}
 use Rattle.canon.specs.Canon.{canon_type}
 use Rattle.code.specs.Callee.{import_at}

@@ -1,4 +1,6 @@
 // Two sections of the linked table: imports with the places that stand in work, canonical numbers.
+#![tactic(auto)]
+
 ghost use Rattle.std.specs.Prelude.{◌≡◌, ◌+◌, ◌*◌, ◌≤◌, ◌<◌, length, get_or};
 ghost use Rattle.writing.specs.Writing.{written};
 ghost use Rattle.table.specs.Table.{canon_section};

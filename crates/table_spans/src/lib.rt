@@ -1,4 +1,6 @@
 // The numbering walk in code: pre, post and chain length of each struct, written as a section of the linked table.
+#![tactic(auto)]
+
 ghost use Rattle.std.specs.Prelude.{◌≡◌, [], ◌∷◌, ◌+◌, ◌*◌, ◌≤◌, ◌<◌, length};
 ghost use Rattle.region.specs.Region.{Off, Frame};
 ghost use Rattle.open_sheet.specs.Ready.{Ready, sheet_words, module_of};

@@ -24,7 +24,6 @@ use Rattle.types.specs.Types.{value_faults, type_faults}
 use Rattle.open_layout.specs.Opened.{module_in}
 use Rattle.rule6_registers.specs.ValueWords.{value_within}
 use Rattle.table.specs.Records.{struct_record, type_body}
-use Rattle.writing.specs.Writing.{written}
 use Rattle.table_structs.specs.StructParts.{Sound, struct_in, struct_at}
 use Rattle.table_types.specs.TypeParts.{one_at, two_at, body_at}
 use Rattle.table_structs.proofs.Joins.{Put, front_room, put_is, put_none, put_room, put_then}

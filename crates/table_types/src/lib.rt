@@ -1,4 +1,6 @@
 // The section of types of the linked table.
+#![tactic(auto)]
+
 ghost use Rattle.std.specs.Prelude.{◌≡◌, [], ◌+◌, ◌*◌, ◌≤◌, ◌<◌, length};
 ghost use Rattle.reader.specs.Reader.{encode_list};
 ghost use Rattle.sheet.specs.Module.{dyn, coroutine, type_at};
