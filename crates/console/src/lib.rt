@@ -44,15 +44,20 @@ pub fn read_input(from: &mut impl Read, bytes: &mut [u8; 8193]) -> usize
     0
 }
 
-// So does a file that cannot be opened, as by a name that is not UTF-8.
+// Opens a file by its name. A name that is not UTF-8 is an error, since std opens no such file.
+pub fn open_file<R: Files>(files: &R, name: &[u8]) -> io::Result<R::File> {
+    match str::from_utf8(name) {
+        Ok(path) => fs::open(files, path),
+        Err(_) => Err(io::Error::from(io::ErrorKind::InvalidFilename)),
+    }
+}
+
+// So does a file that cannot be opened.
 pub fn read_file(files: &impl Files, name: &[u8], bytes: &mut [u8; 8193]) -> usize
     ensures upper_bound { result ≤ 8192 }
     ensures prefix_len { IsPrefixLen result bytes.new }
 {
-    let Ok(path) = str::from_utf8(name) else {
-        return 0;
-    };
-    match fs::open(files, path) {
+    match open_file(files, name) {
         Ok(mut file) => read_input(&mut file, bytes),
         Err(_) => 0,
     }
