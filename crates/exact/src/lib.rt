@@ -1,4 +1,6 @@
 // Sums that are exact beyond 64 bits.
+#![tactic(auto)]
+
 ghost use Rattle.std.specs.Prelude.{◌≡◌, ◌<◌};
 ghost use Rattle.exact.specs.Adding.{Spare, Added};
 ghost use Rattle.exact.specs.Exact.{value_of};

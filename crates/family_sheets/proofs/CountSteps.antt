@@ -1,7 +1,7 @@
 -- The count of a list of types, one law for each return and turn.
-use Prim.Native.Nat.{ℕ, zero, suc, ◌+◌, ◌-◌, ◌≤◌, ◌<◌}
+use Prim.Native.Nat.{ℕ, suc, ◌+◌, ◌-◌, ◌≤◌, ◌<◌}
 use mathlib.Core.Path.{◌≡◌, refl, sym, ap, ◌∙◌}
-use mathlib.Core.List.{List, [], ◌∷◌}
+use mathlib.Core.List.{List, ◌∷◌}
 use mathlib.Core.Bool.{Bool, true, false, cond}
 use mathlib.Core.Option.{Option, none, some}
 use native.Mathlib.Omega.{arith}
@@ -28,7 +28,6 @@ use Rattle.sheet.specs.Encode.{encode_type}
 use Rattle.sheet.specs.TypeCodes.{type_codes}
 use Rattle.open_layout.specs.declared.Layout.{Layout}
 use Rattle.open_layout.specs.declared.Checked.{Checked}
-use Rattle.open_layout.specs.declared.Checked.TheVariants as Checked
 use Rattle.open_layout.specs.Layout.{layout, checked_of}
 use Rattle.open_layout.specs.LayoutLaws.{layout_broken}
 use Rattle.open_layout.specs.Opened.{module_in}

@@ -1,4 +1,6 @@
 // The struct types of a sheet in bytes, counted from its declarations.
+#![tactic(auto)]
+
 ghost use Rattle.std.specs.Prelude.{◌≡◌};
 ghost use Rattle.blocks.specs.Frame.{first_words};
 ghost use Rattle.families.specs.Counted.{structs_in};

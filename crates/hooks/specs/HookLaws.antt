@@ -1,7 +1,7 @@
 -- The words of a hook's binding, as code reads them.
 use Rattle.std.specs.Prelude.{ℕ, ◌+◌, ◌<◌, ◌≡◌, List, ltb, get_or}
 use Rattle.std.proofs.Math.Path.{refl}
-use Rattle.std.proofs.Common.{ap, ◌∙◌, arith}
+use Rattle.std.proofs.Common.{arith}
 use borrow.Author.Tests.{ltb-true}
 use Rattle.lists.specs.ListLaws.{and_first}
 use Rattle.blocks.specs.Blocks.{words}

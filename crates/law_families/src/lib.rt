@@ -1,1 +1,2 @@
 // Families by declared parents and by spans.
+#![tactic(auto)]

@@ -2,7 +2,7 @@
 use Rattle.std.specs.Prelude.{◌≡◌, refl, ◌↔◌, Bool, true, false, ◌&&◌, T, leb, ltb, get_or}
 use Rattle.std.proofs.Common.{sym, ◌∙◌, subst, arith, length-append}
 use Rattle.std.proofs.Math.Path.{ap, ap₂}
-use Rattle.std.proofs.Math.Logic.{Iff·trans}
+use mathlib.Core.Logic.Iff.{trans as iff_trans}
 use Rattle.std.proofs.Math.Decide.{ℕ_discrete}
 use mathlib.Core.List.{List, [], ◌∷◌, ◌++◌, append-nil, append_assoc}
 use Prim.Native.Nat.{ℕ, zero, suc, ◌+◌, ◌≤◌, ◌<◌}
@@ -238,7 +238,7 @@ module _ (lim : ℕ) (types : List TypeDef) where
         let p = part_order a sa in
         let pa : pre lim types a ≡ length p.left = pre_part a lim sa (full_pos types lim a (full_rule lim types rule a sa)) p in
         let mid = place_middle t p.left (under lim types a) p.right (ap (count t) (sym p.is) ∙ struct_once t st) in
-        Iff·trans (pre_post t a p pa) (Iff·trans (mid.1, mid.0) (under_reaches t a st))
+        iff_trans (pre_post t a p pa) (iff_trans (mid.1, mid.0) (under_reaches t a st))
 
     -- for all numbers, unknown ones too
     pub family_all : (t a : ℕ) →
@@ -252,9 +252,9 @@ module _ (lim : ℕ) (types : List TypeDef) where
     -- and by the test that a reader computes
     pub family_test : (t a : ℕ) → T (descends_by_span lim types t a) ↔ (T (is_struct (type_at types t)) × T (is_struct (type_at types a)) × Reaches types t a)
     unfolding descends_by_span
-    family_test t a = rw (← struct_at types t, ← struct_at types a) (Iff·trans
+    family_test t a = rw (← struct_at types t, ← struct_at types a) (iff_trans
         (and_t4 (is_struct_entry (entry_at types t)) (is_struct_entry (entry_at types a)) (leb (pre lim types a) (pre lim types t)) (ltb (pre lim types t) (post lim types a)))
-        (Iff·trans (
+        (iff_trans (
           λ h. (h.0, h.1, leb→le (pre lim types a) (pre lim types t) h.2, ltb→lt (pre lim types t) (post lim types a) h.3),
           λ h. (h.0, h.1, le→leb (pre lim types a) (pre lim types t) h.2, lt→ltb (pre lim types t) (post lim types a) h.3),
         )

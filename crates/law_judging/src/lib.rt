@@ -1,1 +1,2 @@
 // Going through a list until a member breaks a rule.
+#![tactic(auto)]

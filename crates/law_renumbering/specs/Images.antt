@@ -1,7 +1,7 @@
 -- The parts of a type's image.
-use Rattle.std.specs.Prelude.{◌≡◌, true, false, T, ltb}
+use Rattle.std.specs.Prelude.{◌≡◌, true, false, ltb}
 use Rattle.std.proofs.Math.Path.{refl, sym, ap}
-use Rattle.std.proofs.Common.{◌∙◌, subst, arith, eqb→eq, ltb-true, ne_eqb}
+use Rattle.std.proofs.Common.{◌∙◌, arith, eqb→eq, ltb-true, ne_eqb}
 use mathlib.Core.List.{List, [], ◌∷◌, map}
 use Rattle.std.proofs.Math.Option.{Option, none, some}
 use Prim.Native.Nat.{ℕ, zero, suc, ◌+◌}

@@ -1,13 +1,10 @@
 -- The theorem over bytes, and the two ways to say that sheets differ by one renumbering.
-use Rattle.std.specs.Prelude.{◌≡◌, true, List, ℕ, ◌+◌, T, length}
+use Rattle.std.specs.Prelude.{◌≡◌, true, List, ℕ, ◌+◌, length}
 use Rattle.std.proofs.Common.{sym, ap, ◌∙◌}
-use Rattle.std.proofs.Math.Option.{some}
 use Rattle.lists.specs.Lists.{all_of}
 use Rattle.blocks.specs.Blocks.{words, length_word}
 use Rattle.blocks.specs.ByteLaws.{is_byte}
-use Rattle.sheet.specs.Module.{Module}
 use Rattle.sheet.specs.Decode.{decode}
-use Rattle.sheet.specs.Encode.{sheet_of}
 use Rattle.sheet.specs.SheetLaws.{decode_is_sheet, decode_coded, decode_length, sheet_length}
 use Rattle.load.specs.Load.{long_enough}
 use Rattle.renumber.specs.Renumber.{renumber, RenumberedSheet}

@@ -2,7 +2,7 @@
 use Rattle.std.specs.Prelude.{◌≡◌, List, ◌++◌, ℕ, ◌+◌, ◌≤◌, length, take, drop}
 use Rattle.std.proofs.Common.{sym, ap, ap₂, ◌∙◌, append_assoc, arith, length-append, drop-drop}
 use Rattle.std.proofs.Math.Seq.{paste, take-length}
-use Rattle.std.proofs.lemmas.List.Edits.{take-paste, drop-paste, length-paste}
+use Rattle.std.proofs.lemmas.List.Edits.{take-paste, drop-paste}
 
 module _ {A : Type 0} (d : List A) (a : ℕ) (s t : List A) (h : a ≤ length d) where
   before : take (a + length s) (paste d a s (length s)) ≡ take a d ++ s

@@ -4,7 +4,6 @@ use Rattle.lists.specs.Lists.{all_of}
 use Rattle.error.specs.Answer.{kind_numbers}
 use Rattle.sheet.specs.Module.{Func, Inst, Module, opcode}
 use Rattle.code.specs.declared.FieldKind.{FieldKind}
-use Rattle.code.specs.declared.FieldKind
 use Rattle.code.specs.Opcodes.{Row, row, Rule, free, noPromote, promoteToDyn, tailCall, tailCallIndirect, call, callIndirect, callImport}
 use Rattle.code.specs.Opcodes.{callShape, make_closure, of_kind, concatenate, notToRef, catchable, wideBits}
 use Rattle.code.specs.Code.{handler_faults, table_faults, field_faults, fields_faults, window_faults, arity_faults, direct_faults}

@@ -1,16 +1,14 @@
 -- Where functions end.
-use Prim.Native.Nat.{ℕ, ◌+◌, ◌-◌, ◌%◌, ◌≤◌, ◌<◌}
+use Prim.Native.Nat.{ℕ, ◌+◌, ◌%◌, ◌≤◌, ◌<◌}
 use mathlib.Core.Path.{◌≡◌, refl, sym, ap, ◌∙◌}
-use mathlib.Core.List.{List, [], ◌∷◌}
-use mathlib.Core.Bool.{cond}
-use native.Mathlib.Omega.{arith}
-use lib.ListN.{length, get_or}
+use mathlib.Core.List.{List}
+use lib.ListN.{get_or}
 use borrow.Author.Tests.{lt-ltb, le-ltb}
 use Rattle.blocks.specs.Blocks.{words}
 use Rattle.blocks.specs.Frame.{first_words}
 use Rattle.reader.specs.declared.Step.{Step}
 use Rattle.reader.specs.declared.Step.TheVariants.{Next, Broken}
-use Rattle.reader.specs.Reader.{Got, broken, got, Reader, and_then, fail, word, many, list_of}
+use Rattle.reader.specs.Reader.{Got, and_then, word, many, list_of}
 use Rattle.reader.specs.Step.{step_of}
 use Rattle.reader.specs.StepLaws.{word_read, word_none, arrived, stuck, make}
 use Rattle.reader.specs.AlikeLaws.{two_on, ends_alike, then_alike, into_alike}
@@ -20,7 +18,7 @@ use Rattle.sheet_reader.specs.declared.Taken.TheVariants.{Word}
 use Rattle.sheet_reader.specs.declared.Taken.TheVariants as taken
 use Rattle.sheet_reader.specs.Taken.{taken_of}
 use Rattle.sheet_reader.specs.TakenLaws.{word_taken, none_taken}
-use Rattle.sheet.specs.Module.{ValueType, Arg, Handler, Switch, Inst, opcode}
+use Rattle.sheet.specs.Module.{opcode}
 use Rattle.sheet.specs.Decode.{value_type, param_list, arg_of, handler_of, switch_of, known_code, inst_of, function_of}
 use Rattle.sheet.specs.SizeLaws.{handler_sized, shapes_alike}
 use Rattle.open_funcs.specs.Halves.{frame_half, body_of, code_half}

@@ -1,6 +1,6 @@
 -- An entry of two empty strings has three words and any other four or more, so a list of few words has few entries where no pair stands twice.
 use Rattle.std.specs.Prelude.{ℕ, suc, ◌+◌, ◌*◌, ◌≤◌, ◌≡◌, refl, List, [], ◌∷◌, ◌++◌, Bool, true, false, not, ◌&&◌, ◌||◌, length}
-use Rattle.std.proofs.Common.{sym, ap, ap₂, ◌∙◌, arith, length-append}
+use Rattle.std.proofs.Common.{sym, ap₂, ◌∙◌, arith, length-append}
 use Rattle.lists.specs.Lists.{any_of, concat_map, same}
 use Rattle.lists.specs.ListLaws.{and_first, and_second, same_eq}
 use Rattle.reader.specs.Text.{words_for, encode_string}

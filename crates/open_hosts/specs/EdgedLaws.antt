@@ -1,5 +1,5 @@
 -- The edges of the host list: item i of the sort is entry i's words.
-use Rattle.std.specs.Prelude.{ℕ, ◌+◌, ◌-◌, ◌*◌, ◌≤◌, ◌<◌, ◌≡◌, refl, List, [], ◌∷◌, ◌++◌, true, ◌&&◌, ltb, length, get_or, drop}
+use Rattle.std.specs.Prelude.{ℕ, ◌+◌, ◌-◌, ◌*◌, ◌≤◌, ◌<◌, ◌≡◌, List, [], ◌∷◌, ◌++◌, true, ◌&&◌, ltb, length, get_or, drop}
 use Rattle.std.proofs.Common.{sym, ap, ◌∙◌, arith, zero-add, length-append, length-drop}
 use Rattle.std.proofs.Math.Path.{ap₂}
 use Rattle.std.proofs.Math.Decide.{dec_lt}
@@ -16,7 +16,7 @@ use Rattle.reader.specs.Value.{Whole}
 use Rattle.reader.specs.ValueLaws.{whole_inv, got_whole, value_got}
 use Rattle.region.specs.Region.{part}
 use Rattle.region.specs.RegionLaws.{part_at}
-use Rattle.sorting.specs.Items.{item, Rising}
+use Rattle.sorting.specs.Items.{item}
 use Rattle.sorting.specs.Contract.{Edges, Ready}
 use Rattle.host.specs.Host.{HostFn, host_fn, nobody, encode_host}
 use Rattle.host.specs.HostLaws.{coded_host, host_codes}

@@ -1,13 +1,11 @@
 -- The order of the entries: what stands between equal pairs equals them, and a pair is found by binary search.
-use Rattle.std.specs.Prelude.{ℕ, ◌+◌, ◌-◌, ◌≤◌, ◌<◌, refl, List, Bool, leb, length, get_or}
+use Rattle.std.specs.Prelude.{ℕ, ◌+◌, ◌-◌, ◌≤◌, ◌<◌, refl, List, Bool, leb, get_or}
 use Rattle.std.proofs.Math.Path.{◌≡◌, sym, ap, subst}
 use Rattle.std.proofs.Common.{ap₂, ◌∙◌}
 use Rattle.std.proofs.Math.Bool.{true, false}
 use native.Mathlib.Omega.{arith}
 use Rattle.std.proofs.Math.Decide.{dec_lt}
 use Rattle.std.proofs.Math.Dec.{T}
-use Rattle.lists.specs.Lists.{same}
-use Rattle.lists.specs.ListLaws.{and_first, and_second, same_eq}
 use Rattle.utf8.specs.Utf8.{well_formed}
 use Rattle.region.specs.Region.{part, word_at}
 use Rattle.sorting.specs.declared.Ordering.{Ordering}
@@ -16,7 +14,7 @@ use Rattle.sorting.specs.Items.{item}
 use Rattle.sorting.specs.Order.{lex, before, or_number}
 use Rattle.sorting.specs.Lex.{lex_refl, lex_same}
 use Rattle.sorting.specs.Merge.{Place}
-use Rattle.host.specs.Host.{HostFn, named, pairs_distinct, lookup, nobody, encode_host}
+use Rattle.host.specs.Host.{named, pairs_distinct, lookup}
 use Rattle.host.specs.Listed.{hosts_in}
 use Rattle.open_hosts.specs.Sorted.{entry_count, Arranged}
 use Rattle.open_hosts.specs.PairOrder.{pair_words, pair_order, pair_of, pair_before, less_then, greater_then, between, named_equal, equal_named}

@@ -4,7 +4,6 @@ use Rattle.std.proofs.Common.{sym, ap, ◌∙◌, arith, lt-ltb, le-ltb}
 use Rattle.std.proofs.Math.Decide.{dec_lt}
 use Rattle.lists.specs.Lists.{any_of, first_at}
 use Rattle.lists.specs.FirstLaws.{first_most, first_passes, first_in, first_end}
-use Rattle.host.specs.declared.Found.{Found}
 use Rattle.host.specs.declared.Found.TheVariants.{At, Missing}
 use Rattle.host.specs.Host.{HostFn, named, pairs_distinct, lookup, resolved, is_scheduler, nobody}
 use Rattle.host.specs.Listed.{found_at, found}

@@ -7,7 +7,7 @@ use Rattle.std.proofs.Math.ListN.{take}
 use Rattle.std.proofs.Math.Seq.{slice}
 use Rattle.lists.specs.Lists.{all_of, concat_map}
 use Rattle.lists.specs.ListLaws.{and_first}
-use Rattle.blocks.specs.Blocks.{words, bytes_of}
+use Rattle.blocks.specs.Blocks.{bytes_of}
 use Rattle.blocks.specs.ByteLaws.{is_byte}
 use Rattle.blocks.specs.Frame.{first_words}
 use Rattle.blocks.specs.FirstWords.{first_words_small}

@@ -1,4 +1,6 @@
 // A sorted index of the host list in lent words: pairs are tested, and imports are found by binary search.
+#![tactic(auto)]
+
 ghost use Rattle.std.specs.Prelude.{◌≡◌, ◌≤◌, ◌<◌, length};
 ghost use Rattle.blocks.specs.Frame.{first_words};
 ghost use Rattle.reader.specs.Reader.{list_of};

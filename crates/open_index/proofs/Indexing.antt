@@ -1,6 +1,6 @@
 -- A loop that writes where each member of a list stands: left are ahead, it stands at q, and writes to word i next.
 use Prim.Native.Nat.{ℕ, suc, ◌+◌, ◌-◌, ◌≤◌, ◌<◌}
-use mathlib.Core.Path.{◌≡◌, refl, sym, ap, ap₂, ◌∙◌}
+use mathlib.Core.Path.{◌≡◌, sym, ap, ap₂, ◌∙◌}
 use mathlib.Core.List.{List, [], ◌∷◌, ◌++◌}
 use mathlib.Core.Bool.{true}
 use native.Mathlib.Omega.{arith}
@@ -14,7 +14,7 @@ use Rattle.blocks.specs.ByteLaws.{is_byte, is_word}
 use Rattle.blocks.specs.FirstWords.{length_first_words, first_words_small}
 use Rattle.reader.specs.declared.Step.{Step}
 use Rattle.reader.specs.declared.Step.TheVariants.{Next, Broken}
-use Rattle.reader.specs.Reader.{Got, broken, got, and_then, word, many, list_of}
+use Rattle.reader.specs.Reader.{got, many, list_of}
 use Rattle.reader.specs.ReaderLaws.{then_inv}
 use Rattle.reader.specs.Step.{step_of}
 use Rattle.reader.specs.StepLaws.{arrived, stuck, word_read}
@@ -24,7 +24,7 @@ use Rattle.reader.specs.ValueLaws.{whole_inv, list_within}
 use Rattle.reader.specs.SizeLaws.{many_length}
 use Rattle.open_index.specs.Index.{member_of, edges_of}
 use Rattle.open_index.specs.IndexLaws.{edges_got}
-use Rattle.open_index.proofs.Members.{member_is, member_in, member_inside, drop_next, get_d_here}
+use Rattle.open_index.proofs.Members.{member_is, member_inside, drop_next, get_d_here}
 
 pub record Indexes (part : Part) (ws : List ℕ) (at : ℕ) (w₀ : List ℕ) (base : ℕ) (w : List ℕ) (left q i : ℕ) : Type 0 where
   pub room : base + length (edges_of part ws at) ≤ length w₀

@@ -1,17 +1,15 @@
 -- What is known of a member and of a list that was read.
 use Prim.Native.Nat.{ℕ, ◌+◌, ◌≤◌, ◌<◌}
-use mathlib.Core.Path.{◌≡◌, refl, sym, ap, subst, ◌∙◌}
-use mathlib.Core.List.{List, [], ◌∷◌}
+use mathlib.Core.Path.{◌≡◌, sym, ap, ◌∙◌}
+use mathlib.Core.List.{List, ◌∷◌}
 use mathlib.Core.Bool.{Bool, true}
 use native.Mathlib.Omega.{arith}
 use native.Mathlib.Decide.{dec_lt}
 use lib.ListN.{length, get_or, drop}
 use lib.Seq.{drop-drop, get_or-drop}
-use Rattle.blocks.specs.Blocks.{words}
 use Rattle.blocks.specs.Frame.{first_words}
 use Rattle.reader.specs.declared.Step.{Step}
-use Rattle.reader.specs.declared.Step.TheVariants.{Next, Broken}
-use Rattle.reader.specs.Reader.{Got, broken, got, Reader, and_then, word, many, list_of}
+use Rattle.reader.specs.Reader.{broken, got, Reader}
 use Rattle.lists.specs.Lists.{all_of}
 use Rattle.blocks.specs.ByteLaws.{is_word}
 use Rattle.utf8.specs.Utf8.{well_formed}

@@ -1,13 +1,12 @@
 -- Parts written side by side from word 0 on.
 use Prim.Native.Nat.{ℕ, ◌+◌, ◌≤◌}
-use mathlib.Core.Path.{◌≡◌, refl, sym, ap, ap₂, ◌∙◌}
+use mathlib.Core.Path.{◌≡◌, ap, ap₂, ◌∙◌}
 use mathlib.Core.List.{List, ◌++◌}
 use native.Mathlib.Omega.{arith}
 use lib.ListN.{length, length-append}
 use lib.Seq.{paste, length-paste}
 use Rattle.lists.specs.PasteLaws.{paste_paste}
 use Rattle.open_layout.specs.declared.Layout.{Layout}
-use Rattle.open_index.specs.declared.Index.{Index}
 use Rattle.open_index.specs.declared.Part.TheVariants.{Strings, Types, Consts, Imports, Funcs}
 use Rattle.open_index.specs.Index.{edges_of, index, index_of}
 

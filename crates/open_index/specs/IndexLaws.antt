@@ -1,12 +1,11 @@
 -- What the index holds: of an intact sheet, where each member stands; and there is room for it.
-use Prim.Native.Nat.{ℕ, zero, suc, ◌+◌, ◌*◌, ◌≤◌, ◌<◌}
-use Rattle.std.specs.Prelude.{◌≡◌, refl, Bool, true, length, get_or}
+use Prim.Native.Nat.{ℕ, zero, suc, ◌+◌, ◌≤◌, ◌<◌}
+use Rattle.std.specs.Prelude.{◌≡◌, refl, Bool, length, get_or}
 use Rattle.std.proofs.Math.Path.{sym, ap, subst}
 use Rattle.std.proofs.Common.{◌∙◌, arith}
 use mathlib.Core.List.{List, [], ◌∷◌, ◌++◌}
 use Rattle.std.proofs.Math.ListN.{length-append}
-use Rattle.lists.specs.Lists.{all_of}
-use Rattle.reader.specs.Reader.{Got, broken, got, Reader, and_then, word, many, list_of}
+use Rattle.reader.specs.Reader.{Got, got, Reader, and_then, word, many, list_of}
 use Rattle.reader.specs.ReaderLaws.{stands_in, Codes, then_inv, seq, word_codes}
 use Rattle.reader.specs.ReadLaws.{many_fit}
 use Rattle.open_layout.specs.Layout.{pos_of}

@@ -1,8 +1,8 @@
 -- The index of an intact sheet: its lists are whole, there is room for it, and its words are where the members stand.
-use Rattle.std.specs.Prelude.{ℕ, ◌+◌, ◌≤◌, ◌<◌, refl, true}
+use Rattle.std.specs.Prelude.{ℕ, ◌+◌, ◌≤◌, refl, true}
 use Rattle.std.proofs.Math.Path.{◌≡◌, sym, ap}
 use Rattle.std.proofs.Common.{subst, ◌∙◌}
-use mathlib.Core.List.{List, ◌∷◌, ◌++◌}
+use mathlib.Core.List.{List, ◌++◌}
 use Rattle.std.proofs.Math.Option.{Option, none, some}
 use native.Mathlib.Omega.{arith}
 use Rattle.std.proofs.Math.ListN.{length, length-append}
@@ -14,7 +14,7 @@ use Rattle.blocks.specs.declared.Frame.TheVariants.{Words}
 use Rattle.blocks.specs.FirstWords.{first_words_framed, frame_few}
 use Rattle.utf8.specs.Utf8.{well_formed}
 use Rattle.reader.specs.declared.Step.TheVariants.{Next}
-use Rattle.reader.specs.Reader.{got, list_of}
+use Rattle.reader.specs.Reader.{got}
 use Rattle.reader.specs.Text.{string, encode_string}
 use Rattle.reader.specs.TextLaws.{string_codes}
 use Rattle.reader.specs.ReaderLaws.{free, word_codes}
@@ -22,7 +22,7 @@ use Rattle.reader.specs.ReadLaws.{content_inv, content_is}
 use Rattle.reader.specs.Step.{step_of}
 use Rattle.reader.specs.StepLaws.{arrived}
 use Rattle.reader.specs.ValueLaws.{value_got}
-use Rattle.sheet.specs.Module.{TypeDef, Const, plain, Import, Func, Module, no_module}
+use Rattle.sheet.specs.Module.{Const, plain, Module, no_module}
 use Rattle.sheet.specs.Editions.{newest_edition}
 use Rattle.sheet.specs.Decode.{type_def, const_of, import_of, global_of, function_of, hook_of, export_of, module_of, decode}
 use Rattle.sheet.specs.Encode.{encode_type, encode_const, encode_import, encode_global, encode_func, encode_hook, encode_export}
@@ -30,12 +30,11 @@ use Rattle.sheet.specs.Coded.{coded_type, coded_global, coded_func, coded_hook, 
 use Rattle.sheet.specs.TypeCodes.{type_codes, const_codes}
 use Rattle.sheet.specs.FuncCodes.{import_codes, global_codes, function_codes}
 use Rattle.sheet.specs.ModuleCodes.{hook_codes, export_codes}
-use Rattle.open_layout.specs.Layout.{pos_of, layout_of, layout, checked_of}
+use Rattle.open_layout.specs.Layout.{layout_of, layout, checked_of}
 use Rattle.open_layout.specs.Opened.{module_in}
 use Rattle.open_layout.specs.LayoutLaws.{layout_module, Located, located}
 use Rattle.open_layout.specs.declared.Layout.{Layout}
 use Rattle.open_layout.specs.declared.Checked.{Checked}
-use Rattle.open_layout.specs.declared.Checked.TheVariants as Checked
 use Rattle.open_index.specs.declared.Part.TheVariants.{Strings, Types, Consts, Imports, Funcs}
 use Rattle.open_index.specs.Index.{member_of, edges_of, Indexable, index}
 use Rattle.open_index.specs.IndexLaws.{Indexed, indexed, list_fit}

@@ -1,4 +1,6 @@
 // Where each string, type, constant, import and function of an intact sheet stands and ends, written to lent words.
+#![tactic(auto)]
+
 ghost use Rattle.std.specs.Prelude.{◌≡◌, ◌+◌, ◌≤◌, ◌<◌, ◌^◌, length};
 ghost use Rattle.std.proofs.Math.Seq.{paste};
 ghost use Rattle.blocks.specs.Frame.{first_words};

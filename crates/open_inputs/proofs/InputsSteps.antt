@@ -1,14 +1,11 @@
 -- One law for each return of the tests before any rule.
 use Prim.Native.Nat.{ℕ}
-use mathlib.Core.Path.{◌≡◌, refl, sym, ap, ◌∙◌}
+use mathlib.Core.Path.{◌≡◌, sym, ap, ◌∙◌}
 use mathlib.Core.Bool.{Bool, true, false, cond}
-use mathlib.Core.List.{List}
 use Rattle.error.specs.declared.LoadErrorKind.TheVariants.{Decode, BadHostList, ShortSlice}
 use Rattle.open_layout.specs.declared.Layout.{Layout}
 use Rattle.open_layout.specs.declared.Checked.{Checked}
-use Rattle.open_layout.specs.declared.Checked.TheVariants as Checked
 use Rattle.host.specs.declared.Listed.{Listed}
-use Rattle.host.specs.declared.Listed.TheVariants as Listed
 use Rattle.load.specs.Load.{enough}
 use Rattle.open_inputs.specs.declared.Inputs.{Inputs}
 use Rattle.open_inputs.specs.declared.Inputs.TheVariants.{Refused, Intact}

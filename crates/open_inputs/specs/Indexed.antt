@@ -5,7 +5,6 @@ use Rattle.blocks.specs.Frame.{first_words}
 use Rattle.error.specs.declared.LoadErrorKind.{LoadErrorKind}
 use Rattle.open_layout.specs.declared.Layout.{Layout}
 use Rattle.host.specs.declared.Listed.{Listed}
-use Rattle.host.specs.declared.Listed.TheVariants as Listed
 use Rattle.open_hosts.specs.Sorted.{SortedHosts, SortedIf}
 use Rattle.open_hosts.specs.SortedLaws.{sorted_now}
 use Rattle.open_inputs.specs.declared.Inputs.{Inputs}

@@ -3,9 +3,7 @@ use Rattle.std.specs.Prelude.{ℕ, cond}
 use Rattle.error.specs.declared.LoadErrorKind.TheVariants.{Decode, BadHostList, ShortSlice}
 use Rattle.open_layout.specs.declared.Layout.{Layout}
 use Rattle.open_layout.specs.declared.Checked.{Checked}
-use Rattle.open_layout.specs.declared.Checked.TheVariants as Checked
 use Rattle.host.specs.declared.Listed.{Listed}
-use Rattle.host.specs.declared.Listed.TheVariants as Listed
 use Rattle.load.specs.Load.{enough}
 use Rattle.open_inputs.specs.declared.Inputs.{Inputs}
 use Rattle.open_inputs.specs.declared.Inputs.TheVariants.{Refused, Intact}

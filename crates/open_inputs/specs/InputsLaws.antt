@@ -1,5 +1,5 @@
 -- What the answer of the tests before any rule says of the module and its hosts.
-use Rattle.std.specs.Prelude.{ℕ, ◌+◌, ◌*◌, ◌≤◌, ◌<◌, Bool, true, cond, List, leb, length}
+use Rattle.std.specs.Prelude.{ℕ, ◌+◌, ◌*◌, ◌≤◌, Bool, true, cond, List, leb, length}
 use Rattle.std.proofs.Math.Path.{◌≡◌, refl, ap, subst}
 use Rattle.std.proofs.Common.{sym, ◌∙◌, arith, leb-true}
 use Rattle.std.proofs.Math.Bool.{false}
@@ -18,22 +18,18 @@ use Rattle.reader.specs.Step.{step_of}
 use Rattle.reader.specs.StepLaws.{arrived}
 use Rattle.sheet.specs.Module.{Module}
 use Rattle.sheet.specs.Editions.{newest_edition}
-use Rattle.sheet.specs.Decode.{module_of, decode}
+use Rattle.sheet.specs.Decode.{module_of}
 use Rattle.open_layout.specs.declared.Layout.{Layout}
-use Rattle.open_layout.specs.declared.Checked.{Checked}
-use Rattle.open_layout.specs.declared.Checked.TheVariants as Checked
 use Rattle.open_layout.specs.Layout.{layout_of, layout, checked_of}
 use Rattle.open_layout.specs.LayoutLaws.{layout_module, layout_broken, located, Located}
 use Rattle.open_layout.specs.Opened.{module_in}
-use Rattle.open_index.specs.SheetIndex.{intact, Intact}
+use Rattle.open_index.specs.SheetIndex.{intact}
 use Rattle.host.specs.declared.Listed.{Listed}
-use Rattle.host.specs.declared.Listed.TheVariants as Listed
 use Rattle.host.specs.Host.{HostFn, host_fn, decode_hosts}
 use Rattle.host.specs.Listed.{listed_for, listed_of, hosts_in}
 use Rattle.host.specs.ListedLaws.{hosts_ready, hosts_are}
-use Rattle.load.specs.Load.{needed, fits, enough, long_enough, Opened, refused, opened, with_hosts, with_module, opening}
+use Rattle.load.specs.Load.{needed, fits, enough, long_enough, refused, opened, with_hosts, with_module, opening}
 use Rattle.open_inputs.specs.declared.Inputs.{Inputs}
-use Rattle.open_inputs.specs.declared.Inputs.TheVariants as Inputs
 use Rattle.open_inputs.specs.Inputs as inputs
 
 -- what is known of inputs that are not refused

@@ -1,4 +1,6 @@
 // The tests before any rule, in their order: 1, 23, 24.
+#![tactic(auto)]
+
 ghost use Rattle.std.specs.Prelude.{◌≡◌, length};
 ghost use Rattle.error.specs.declared.Loaded.TheVariants.{Refused};
 ghost use Rattle.error.specs.Answer.{in_module};

@@ -2,7 +2,7 @@
 use Rattle.std.specs.Prelude.{ℕ, List, length}
 use Rattle.std.proofs.Math.Option.{Option, none, some}
 use Rattle.blocks.specs.Blocks.{framed}
-use Rattle.reader.specs.Reader.{Got, got, Reader, and_then, ◌>>=◌, pure, word, list_of, content}
+use Rattle.reader.specs.Reader.{got, Reader, and_then, ◌>>=◌, pure, word, list_of, content}
 use Rattle.reader.specs.Text.{string}
 use Rattle.sheet.specs.Editions.{newest_edition}
 use Rattle.sheet.specs.Decode.{type_def, const_of, import_of, global_of, function_of, hook_of, export_of}

@@ -4,8 +4,7 @@ use Rattle.std.proofs.Math.Path.{refl}
 use Rattle.std.proofs.Common.{sym, ap, subst, ◌∙◌, arith}
 use Rattle.std.proofs.Math.Option.{Option, none, some}
 use Rattle.blocks.specs.Blocks.{edition_word, framed}
-use Rattle.reader.specs.declared.Step.{Step}
-use Rattle.reader.specs.Reader.{Got, broken, got, and_then, word, list_of, stated, whole, content}
+use Rattle.reader.specs.Reader.{Got, broken, got, word, list_of, stated, whole, content}
 use Rattle.reader.specs.Text.{string}
 use Rattle.reader.specs.ReaderLaws.{then_inv}
 use Rattle.reader.specs.Step.{step_of}

@@ -1,4 +1,6 @@
 // The layout of a sheet: broken, or where its parts stand.
+#![tactic(auto)]
+
 ghost use Rattle.std.specs.Prelude.{◌≡◌};
 ghost use Rattle.open_layout.specs.Layout.{layout, checked_of};
 

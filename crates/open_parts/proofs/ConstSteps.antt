@@ -5,18 +5,17 @@ use mathlib.Core.List.{List, [], ◌∷◌}
 use mathlib.Core.Option.{none, some}
 use native.Mathlib.Omega.{arith}
 use native.Mathlib.Decide.{dec_lt}
-use lib.ListN.{length, get_or, get_or-eq_default}
+use lib.ListN.{get_or, get_or-eq_default}
 use Rattle.blocks.specs.Blocks.{words}
 use Rattle.blocks.specs.Frame.{first_words}
-use Rattle.blocks.specs.FirstWords.{length_first_words}
 use Rattle.reader.specs.declared.Step.{Step}
 use Rattle.reader.specs.declared.Step.TheVariants.{Next, Broken}
-use Rattle.reader.specs.Reader.{Got, broken, got, Reader, and_then, ◌>>=◌, pure, fail, word, many, list_of}
+use Rattle.reader.specs.Reader.{Reader, ◌>>=◌, pure, fail, word, many, list_of}
 use Rattle.reader.specs.Step.{step_of}
-use Rattle.reader.specs.StepLaws.{word_read, word_none, beyond, arrived, stuck, make}
+use Rattle.reader.specs.StepLaws.{word_read, word_none, arrived, stuck, make}
 use Rattle.reader.specs.AlikeLaws.{three_on}
 use Rattle.reader.specs.RecordSteps.{Sized, sized_two, sized_next, sized_end, sized_word, sized_list, sized_fit, sized_short}
-use Rattle.sheet.specs.Module.{ValueType, Const, plain, Param, ParamList}
+use Rattle.sheet.specs.Module.{Const, plain, ParamList}
 use Rattle.sheet.specs.Decode.{value_type, plain_const, string_const, array_const, pair_of, map_const, const_bodies, const_of, param_of, some_params, param_list, import_of, global_of}
 
 -- ── constants ──

@@ -1,9 +1,9 @@
 -- Where value types, fields and types end.
 use Prim.Native.Nat.{ℕ, ◌+◌, ◌≤◌, ◌<◌}
 use mathlib.Core.Path.{◌≡◌, refl, sym, ap, ◌∙◌}
-use mathlib.Core.List.{List, [], ◌∷◌}
+use mathlib.Core.List.{List}
 use native.Mathlib.Omega.{arith}
-use lib.ListN.{length, get_or, get_or-eq_default}
+use lib.ListN.{get_or, get_or-eq_default}
 use borrow.Author.Tests.{lt-ltb, le-ltb}
 use Rattle.blocks.specs.Blocks.{words}
 use Rattle.blocks.specs.Frame.{first_words}
@@ -14,7 +14,7 @@ use Rattle.reader.specs.Step.{step_of}
 use Rattle.reader.specs.StepLaws.{word_read, word_none, beyond, arrived, stuck, make}
 use Rattle.reader.specs.AlikeLaws.{two_on}
 use Rattle.reader.specs.RecordSteps.{Sized, sized_two, sized_list}
-use Rattle.sheet.specs.Module.{ValueType, Method, TypeDef, func, coroutine, cell, iter}
+use Rattle.sheet.specs.Module.{ValueType, TypeDef, func, cell, iter}
 use Rattle.sheet.specs.Decode.{value_type, field_of, method_of, func_type, struct_type, of_one, of_two, type_bodies, type_def}
 
 method_sized : Sized method_of 2

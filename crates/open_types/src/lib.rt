@@ -1,4 +1,6 @@
 // Types: a kind word, then what it wants.
+#![tactic(auto)]
+
 ghost use Rattle.std.specs.Prelude.{◌≡◌};
 ghost use Rattle.blocks.specs.Frame.{first_words};
 ghost use Rattle.reader.specs.Reader.{list_of};

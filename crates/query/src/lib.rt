@@ -1,4 +1,6 @@
 // The queries on a linked table: who descends from whom, how many do, and how long a chain is.
+#![tactic(auto)]
+
 ghost use Rattle.std.specs.Prelude.{◌≡◌, true, ◌+◌, ◌*◌, ◌≤◌, ◌<◌, length, get_or};
 ghost use Rattle.descends.specs.Descends.{spans_start, span_count, is_linked, length_in, if_known, is_within, descends};
 ghost use Rattle.descends.specs.Lengths.{chain_length_in};

@@ -8,8 +8,8 @@ use Rattle.std.proofs.Math.Option.{Option, none, some}
 use native.Mathlib.Omega.{arith}
 use Rattle.std.proofs.Math.ListN.{length, length-append}
 use Rattle.std.proofs.Math.Seq.{slice, length-slice, drop-length, drop-append_seam}
-use Rattle.lists.specs.Lists.{all_of, concat_map}
-use Rattle.reader.specs.Reader.{Got, broken, got, Reader, word, many, list_of, whole, content}
+use Rattle.lists.specs.Lists.{concat_map}
+use Rattle.reader.specs.Reader.{Got, broken, got, Reader, many, list_of, whole, content}
 use Rattle.reader.specs.ReaderLaws.{Stands, stands_in, stands_at, Codes, then_inv, seq, word_codes, many_found}
 
 -- ── what codes give to a proof of code ──

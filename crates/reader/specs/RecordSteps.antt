@@ -14,7 +14,7 @@ use Rattle.reader.specs.declared.Step.TheVariants.{Next, Broken}
 use Rattle.reader.specs.Reader.{Got, broken, got, Reader, and_then, ◌>>=◌, pure, word, many, list_of}
 use Rattle.reader.specs.ReaderLaws.{word_at, word_end}
 use Rattle.reader.specs.Step.{step_of}
-use Rattle.reader.specs.StepLaws.{word_read, word_none, arrived, stuck, make}
+use Rattle.reader.specs.StepLaws.{word_read, arrived, stuck, make}
 
 -- ── words ──
 

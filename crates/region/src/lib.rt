@@ -1,4 +1,6 @@
 // Words of a lent slice: read, store, copy and count up, for regions of one slice that are given by their places.
+#![tactic(auto)]
+
 ghost use Rattle.std.specs.Prelude.{◌≡◌, ℕ, ◌+◌, ◌≤◌, ◌<◌, min, length, get_or, set};
 ghost use Rattle.region.specs.Region.{Off, Frame, word_at};
 

@@ -1,4 +1,6 @@
 // The report over sheets.
+#![tactic(auto)]
+
 use error::Loaded;
 use exact::Total;
 

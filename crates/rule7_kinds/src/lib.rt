@@ -1,4 +1,6 @@
 // The kinds of each operation code's slots.
+#![tactic(auto)]
+
 ghost use Rattle.std.specs.Prelude.{◌≡◌, ◌<◌};
 ghost use Rattle.code.specs.Opcodes.{row};
 ghost use Rattle.rule7_kinds.specs.Slots.{place_of, kind_in, slots_of};

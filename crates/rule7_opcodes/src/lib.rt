@@ -1,4 +1,6 @@
 // What each operation code wants besides its fields: whether it terminates, its own rule.
+#![tactic(auto)]
+
 ghost use Rattle.std.specs.Prelude.{◌≡◌, ◌<◌};
 ghost use Rattle.code.specs.Opcodes.{row};
 ghost use Rattle.rule7_opcodes.specs.Rules.{rule_of};

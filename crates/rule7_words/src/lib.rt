@@ -1,4 +1,6 @@
 // An instruction of two words, and its parts.
+#![tactic(auto)]
+
 ghost use Rattle.std.specs.Prelude.{◌≡◌, ◌<◌};
 ghost use Rattle.blocks.specs.Frame.{first_words};
 ghost use Rattle.reader.specs.Value.{Whole, value_of};

@@ -1,6 +1,6 @@
 -- The table in code holds the definitions' shapes: it is compared once as a whole, and read at any hook.
 use Prim.Native.Nat.{ℕ, ◌<◌}
-use mathlib.Core.Path.{◌≡◌, ap, ◌∙◌}
+use mathlib.Core.Path.{◌≡◌, ap}
 use mathlib.Core.List.{List, map}
 use lib.ListN.{get_or}
 use Rattle.lists.specs.ListLaws.{map_at}

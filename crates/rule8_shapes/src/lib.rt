@@ -1,4 +1,6 @@
 // What each of the 31 hooks takes and gives.
+#![tactic(auto)]
+
 ghost use Rattle.std.specs.Prelude.{◌≡◌, ◌<◌};
 ghost use Rattle.hooks.specs.Hooks.{hook_shape};
 ghost use Rattle.rule8_shapes.specs.Shapes.{shape};

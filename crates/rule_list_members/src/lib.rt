@@ -1,4 +1,6 @@
 // What is wanted of each member of a parameter list or a call shape.
+#![tactic(auto)]
+
 ghost use Rattle.std.specs.Prelude.{◌≡◌, false, ◌+◌, ◌*◌, ◌≤◌};
 ghost use Rattle.blocks.specs.Blocks.{words};
 ghost use Rattle.rule_list_members.specs.Members.{pairs_at, is_listed, is_late, is_early, is_in_order, late_after, name_of, name_in, member_holds, members_hold};

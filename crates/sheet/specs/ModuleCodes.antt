@@ -1,8 +1,8 @@
 -- Each reader of a sheet with its encoder: hooks, exports, the nine parts, the module.
-use Rattle.std.specs.Prelude.{ℕ, ◌+◌, ◌-◌, ◌≡◌, true, ◌&&◌, ltb}
+use Rattle.std.specs.Prelude.{ℕ, ◌≡◌, true, ◌&&◌, ltb}
 use Rattle.std.proofs.Math.Path.{refl, ap}
 use Rattle.std.proofs.Common.{◌∙◌}
-use mathlib.Core.List.{List, [], ◌++◌, append_assoc}
+use mathlib.Core.List.{List, append_assoc}
 use Rattle.std.proofs.Math.Dec.{eqb}
 use borrow.Author.Tests.{eqb-true, eq-eqb}
 use Rattle.lists.specs.Lists.{all_of}
@@ -14,7 +14,6 @@ use Rattle.reader.specs.Text.{string, encode_string}
 use Rattle.reader.specs.TextLaws.{string_codes}
 use Rattle.reader.specs.Reader.{got, stated, list_of, encode_list}
 use Rattle.reader.specs.ReaderLaws.{join, Codes, free, seq, next, landed, final, word_codes, code_codes, list_codes, free_codes}
-use Rattle.sheet.specs.Module.{TypeDef}
 use Rattle.sheet.specs.Decode.{hook_count, type_def, const_of, import_of, global_of, function_of, hook_of, export_of, module_of}
 use Rattle.sheet.specs.Encode.{encode_type, encode_const, encode_import, encode_global, encode_func, encode_hook, encode_export, encode}
 use Rattle.sheet.specs.Coded.{coded_type, coded_global, coded_func, coded_hook, coded_export, coded_module}

@@ -8,7 +8,6 @@ use native.Mathlib.Omega.{arith}
 use borrow.Author.Tests.{le-ltb, ltb-false, eqb-true}
 use Rattle.lists.specs.Lists.{all_of}
 use Rattle.lists.specs.ListLaws.{both, and_first, and_second}
-use Rattle.reader.specs.Text.{string}
 use Rattle.reader.specs.Reader.{got, pure, fail, list_of, encode_list}
 use Rattle.reader.specs.ReadLaws.{encode_injective}
 use Rattle.reader.specs.ReaderLaws.{Stands, stands_none, join, Found, Codes, free, seq, next, landed, last, final, not_broken, word_codes, list_codes, free_codes, words_codes}

@@ -1,4 +1,6 @@
 // A sheet and the position of its next word, in one struct.
+#![tactic(auto)]
+
 ghost use Rattle.std.specs.Prelude.{◌≡◌, ◌+◌, ◌<◌, ◌^◌, get_or};
 ghost use Rattle.blocks.specs.Blocks.{words};
 ghost use Rattle.blocks.specs.Frame.{first_words};

@@ -2,17 +2,14 @@
 use Prim.Native.Nat.{ℕ, zero, suc, ◌/◌, ◌%◌, ◌≤◌, ◌<◌}
 use mathlib.Core.Path.{◌≡◌, refl, sym, ap, ◌∙◌}
 use mathlib.Core.List.{List, [], ◌∷◌, Memᴰ}
-use mathlib.Core.Bool.{Bool, true, false, cond, ◌&&◌, and-true, and-false}
+use mathlib.Core.Bool.{Bool, true, false, cond, and-true, and-false}
 use native.Mathlib.Omega.{arith}
-use types.Run.{OneOf, miss}
-use denote.Enum.Declared.{tag_of}
 use lib.Dec.{ltb}
 use lib.ListN.{length, get_or}
 use borrow.Author.Tests.{le-leb, lt-leb, le-ltb, lt-ltb, ltb-true}
 use Rattle.lists.specs.Lists.{all_of}
 use Rattle.lists.specs.ListLaws.{both, and_first, and_second}
 use Rattle.utf8.specs.declared.State.{State}
-use Rattle.utf8.specs.contracts.State.{the_type}
 use Rattle.utf8.specs.declared.State.TheVariants.{Done, Tail1, Tail2, Tail3, AfterE0, AfterED, AfterF0, AfterF4, Wrong}
 use Rattle.utf8.specs.Utf8.{Range, ◌to◌, chars, within, Place, wrong, due, begin, next, after, done}
 use Rattle.utf8.specs.State.{meaning, octets, ascii}
@@ -209,9 +206,9 @@ unfolding meaning
 is_done_lem e = rw e
 
 -- the variants after `Done`, by their numbers
-pub is_not_done : (s : State) → OneOf (1 ∷ 2 ∷ 3 ∷ 4 ∷ 5 ∷ 6 ∷ 7 ∷ 8 ∷ []) (tag_of the_type s) → false ≡ done (meaning s)
+pub is_not_done : (s : State) → (s ≡ Done → ⊥) → false ≡ done (meaning s)
 unfolding meaning
-is_not_done Done h = absurd (miss (1 ∷ 2 ∷ 3 ∷ 4 ∷ 5 ∷ 6 ∷ 7 ∷ 8 ∷ []) 0 tt h)
+is_not_done Done h = absurd (h refl)
 is_not_done Tail1 h = refl
 is_not_done Tail2 h = refl
 is_not_done Tail3 h = refl

@@ -5,7 +5,7 @@ use Rattle.std.proofs.Common.{ap₂, ◌∙◌, append-nil, add-one, length-take
 use native.Mathlib.Omega.{arith}
 use Rattle.std.proofs.Math.Decide.{dec_lt}
 use Rattle.std.proofs.Math.ListN.{length, drop, length-append, get_or-append}
-use Rattle.std.proofs.Math.Seq.{paste, paste-zero, take-length, append_snoc}
+use Rattle.std.proofs.Math.Seq.{paste-zero, take-length, append_snoc}
 use Rattle.std.proofs.lemmas.List.Edits.{length-paste}
 use Rattle.std.proofs.lemmas.List.{set_split}
 use Rattle.lists.specs.Lists.{concat_map}

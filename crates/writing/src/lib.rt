@@ -1,4 +1,6 @@
 // Words written into a lent slice from a place on.
+#![tactic(auto)]
+
 ghost use Rattle.std.specs.Prelude.{◌≡◌, [], ◌∷◌, ◌+◌, ◌<◌, length};
 ghost use Rattle.writing.specs.Writing.{written};
 
