@@ -1,7 +1,7 @@
 """What tests/readme asks of docs/FORMAT.md: its examples are what the programs give, its tables are those of the definitions, of README.md
 and of the C header; and that what editions decide is the same everywhere."""
 import os, re, subprocess, sys, tempfile
-from tally import ROOT, compare
+from tally import ROOT, built, compare
 sys.path.insert(0, ROOT + '/tools')
 from sheetform.blocks import EDITIONS, MAY_LEAVE_OUT, MOST_ON_CHAIN
 
@@ -107,7 +107,7 @@ def linked(sheet, hosts):
     with tempfile.TemporaryDirectory() as where:
         with open(where + '/hosts', 'wb') as f:
             f.write(hosts)
-        printed = subprocess.run([ROOT + '/target/bin/linker'], cwd=where, input=sheet, stdout=subprocess.PIPE).stdout
+        printed = subprocess.run([f"{ROOT}/{built('linker')}"], cwd=where, input=sheet, stdout=subprocess.PIPE).stdout
     return list(map(int, printed.split()))
 
 def sheet_of(source):
@@ -162,7 +162,7 @@ def examples():
 def reported():
     shown = re.search(r'no bytes: ((?:`[\d ]+`(?:, )?)+)\.', section('The report')).group(1)
     stored = ROOT + '/crates/report/data'
-    r = subprocess.run([ROOT + '/target/bin/report', 'root-last', 'none'], cwd=stored, stdout=subprocess.PIPE, text=True)
+    r = subprocess.run([f"{ROOT}/{built('report')}", 'root-last', 'none'], cwd=stored, stdout=subprocess.PIPE, text=True)
     compare(f'{FORMAT}: the lines of the report', re.findall('`(.*?)`', shown), r.stdout.splitlines())
 
 # a call of an import with a mandatory parameter and an optional one
@@ -207,7 +207,7 @@ def hooks():
     source = text('crates/hooks/specs/Hooks.antt')
     shape = r'(\w+) = record \{ params = (\d+); result = (\w+) \}'
     shapes = {name: (params, 'dyn' if result == 'true' else 'none') for name, params, result in re.findall(shape, source)}
-    line = re.search(r'^hookShapes = (.*)', source, re.M).group(1)
+    line = re.search(r'^hook_shapes = (.*)', source, re.M).group(1)
     defined = [shapes[name] for count, name in re.findall(r'replicate (\d+) (\w+)', line) for _ in range(int(count))]
     found = []
     for row in rows('Hook shapes'):
@@ -219,11 +219,11 @@ def hooks():
 # those of the tools are the definition's; the bindings name all that the edition decides, and FORMAT.md cites it
 def editions():
     source = text('crates/sheet/specs/Editions.antt')
-    newest = re.search(r'^newestEdition = (\d+)$', source, re.M).group(1)
-    second, first = re.search(r'^mostOnChain edition = cond \(eqb edition 2\) (\d+) (\d+)$', source, re.M).groups()
+    newest = re.search(r'^newest_edition = (\d+)$', source, re.M).group(1)
+    second, first = re.search(r'^most_on_chain edition = cond \(eqb edition 2\) (\d+) (\d+)$', source, re.M).groups()
     compare('the editions of a sheet', EDITIONS, list(range(1, int(newest) + 1)))
     compare('the most types on a chain', MOST_ON_CHAIN, {1: int(first), 2: int(second)})
-    alone = [re.search(rf'^{name} edition = eqb edition (\d+)$', source, re.M).group(1) for name in ('readsExportNames', 'mayLeaveOut')]
+    alone = [re.search(rf'^{name} edition = eqb edition (\d+)$', source, re.M).group(1) for name in ('reads_export_names', 'may_leave_out')]
     compare('the editions in which arguments may be left out', MAY_LEAVE_OUT, [int(alone[1])])
     sentences = (r'at most (\d+) types in edition 1 and (\d+) in edition 2\. The names of exports are read in edition (\d+) alone: [^.]*\. '
                  r'The optional arguments of an import may be left out in edition (\d+) alone\. Nothing else depends on the edition\.')

@@ -11,13 +11,17 @@ def compare(name, found, expected):
     if found != expected:
         WRONG.append(f'{name}\n    found    {str(found)[:600]}\n    expected {str(expected)[:600]}')
 
+# where rt ci and `rt run` leave a proved program
+def built(program):
+    return f'crates/{program}/out/{program}'
+
 # what a proved program prints of a sheet on standard input, under the host list in the file `hosts` or under none
 def answered(program, sheet, hosts=None):
     with tempfile.TemporaryDirectory() as folder:
         if hosts is not None:
             with open(folder + '/hosts', 'wb') as f:
                 f.write(hosts)
-        return subprocess.run([f'{ROOT}/target/bin/{program}'], cwd=folder, input=sheet, stdout=subprocess.PIPE).stdout.decode()
+        return subprocess.run([f'{ROOT}/{built(program)}'], cwd=folder, input=sheet, stdout=subprocess.PIPE).stdout.decode()
 
 # the tools in a folder of their own, beside the sources, with nothing built
 def copy_tools(folder):
@@ -39,9 +43,10 @@ def fake_loader(folder, does):
         os.chmod(f'{folder}/bin/{name}', 0o755)
     return dict(os.environ, PATH=f"{folder}/bin:{os.environ['PATH']}")
 
-# what a script wants of the test run before it
-def wants(script, *paths):
-    for path, command in paths:
+# what a script wants of the test run before it: these programs, and the library
+def wants(script, *programs):
+    wanted = {**{built(name): f'rt run in crates/{name}' for name in programs}, 'target/staticlib/libpaqlluri.a': 'tools/library'}
+    for path, command in wanted.items():
         if not os.path.exists(f'{ROOT}/{path}'):
             sys.exit(f'{script}: {path} is not here: {command}')
 

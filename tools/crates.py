@@ -26,13 +26,16 @@ CALLS = {
     'family_sheets/src/lib': ['count_structs'],
     'paqlluri/src/lib': ['paqlluri_load', 'paqlluri_descends', 'paqlluri_family_size', 'paqlluri_count_structs'],
     'paqlluri/src/lengths': ['paqlluri_chain_length'], 'paqlluri/src/nearest': ['paqlluri_nearest'],
+    'paqlluri_c/src/lib': [
+        'paqlluri_load', 'paqlluri_descends', 'paqlluri_family_size', 'paqlluri_chain_length', 'paqlluri_nearest', 'paqlluri_count_structs',
+    ],
     'claims/src/lib': [
         'call', 'ask', 'ask_size', 'ask_length', 'ask_nearest', 'count',
         'call_numbers', 'ask_number', 'ask_size_numbers', 'ask_length_numbers', 'ask_nearest_numbers', 'count_numbers',
     ],
     'sheet_report/src/lib': ['report_sheet'],
 }
-KIT = {'console': 'io os libc', 'inspect': 'io os libc', 'limits': 'io libc', 'replay': 'io os libc'}
+STATIC = ['paqlluri_c']
 PAGE, LIST, FIGURES = 'docs/ARCHITECTURE.md', 'crates.txt', 'docs/PROVING.md'
 
 def words(cell):
@@ -67,19 +70,15 @@ def reached(table, crate):
             todo += table[c].uses
     return out
 
-def kit(table, crate):
-    own = KIT.get(crate) or (KIT['console'] if 'console' in table[crate].uses else '')
-    return own.split()
-
-# a '#' heading a layer, then a line a crate: all that it may use, in the tables' order
+# a '#' heading a layer, then a line a crate: what its files name, in the tables' order; rt goes every way down, so no more is listed
 def listing(table):
     lines, layer = [], None
     for name, row in table.items():
         if row.layer != layer:
             lines += ([''] if layer else []) + ['# ' + row.layer]
             layer = row.layer
-        below = reached(table, name)
-        lines.append(' '.join([name + ':'] + [c for c in table if c in below] + kit(table, name)))
+        below = edges(name)
+        lines.append(' '.join([name + (' staticlib:' if name in STATIC else ':')] + [c for c in table if c in below]))
     return '\n'.join(lines) + '\n'
 
 # the files of specs/ of a crate, believed and not
@@ -113,11 +112,10 @@ def figures(table, believed):
     rows = ('definitions (what must be believed)', 'laws and theorems over them', 'contracts, a clause a line', 'code', 'proofs of code')
     for row, n in zip(rows, totals(table, believed)):
         text = put(FIGURES, text, rf'^\| {re.escape(row)} \| [\d,]+ \|$', f'| {row} | {n:,} |')
-    edits, more = (len(glob.glob(f'{ROOT}/crates/*/{where}/*.edit')) for where in ('must-fail', 'must-fail/more'))
+    edits = len(glob.glob(f'{ROOT}/crates/*/must-fail/*.edit'))
     programs = len(glob.glob(f'{ROOT}/crates/*/src/main.rt'))
-    text = put(FIGURES, text, r'proves \d+ crates from nothing, tries \d+ must-fail edits and runs \d+ programs',
-               f'proves {len(table)} crates from nothing, tries {edits} must-fail edits and runs {programs} programs')
-    return put(FIGURES, text, r'\d+ more edits stand', f'{more} more edits stand')
+    return put(FIGURES, text, r'proves \d+ crates, tries \d+ must-fail edits and runs \d+ programs',
+               f'proves {len(table)} crates, tries {edits} must-fail edits and runs {programs} programs')
 
 # what is computed, file by file
 def written(table, believed):

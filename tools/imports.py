@@ -2,8 +2,9 @@
 import glob, os, re
 
 ROOT = os.path.dirname(os.path.dirname(os.path.abspath(__file__)))
-# antt's names may have dots, dashes and primes inside
-WORD = r'[\w·′₀-₉-]'
+# antt's names may have dashes and primes inside
+WORD = r"[\w'₀-₉-]"
+CRATES = sorted(os.listdir(ROOT + '/crates'))
 
 def read(path):
     with open(f'{ROOT}/{path}', encoding='utf-8') as f:
@@ -30,16 +31,15 @@ def sources(crate):
 # crates that a crate names: in Rattle by the first word of a path, in antt by the library
 def edges(crate):
     found, own = set(), set(re.findall(r'^\s*(?:pub )?mod (\w+);', '\n'.join(t for p, t in sources(crate)), re.M))
-    crates = set(os.listdir(ROOT + '/crates'))
     for _, text in sources(crate):
-        found |= set(re.findall(r'Rattle·(\w+)\.', text))
+        found |= set(re.findall(r'Rattle\.(\w+)\.', text))
         found |= {w for w in re.findall(r'(?<![\w:])(\w+)::', text) if w not in own}
-    return found & crates - {crate}
+    return found & {*CRATES} - {crate}
 
 # ── what must be believed ──
 
 # whatever way a file of crates/ is named: imported with names or whole, under another name, or by a whole path
-NAMED = re.compile(r'Rattle·(\w+?)(?:·\w+)?\.(\w+)\.([\w.·-]+)')
+NAMED = re.compile(rf"Rattle\.({'|'.join(CRATES)})\.(\w+)\.([\w.'-]+)")
 
 # the file that 'crate', 'specs', 'A.B.name' lies in: the longest path that is one; None where there is none
 def lies_in(crate, part, name):
@@ -72,7 +72,7 @@ def closure(start):
 def declared(paths):
     out = set()
     for path in paths:
-        for crate, name in re.findall(r'Rattle·(\w+?)(?:·specs)?\.specs\.declared\.(\w+)', code(path + '.antt')):
+        for crate, name in re.findall(r'Rattle\.(\w+)\.specs\.declared\.(\w+)', code(path + '.antt')):
             out |= {p + '.rt' for p in files(crate, 'src') if re.search(rf'^pub (struct|enum) {name}\b', read(f'crates/{p}.rt'), re.M)}
     return out
 
@@ -87,7 +87,7 @@ def cited(path, function):
     text = contract(path, function)
     yield from (used for _, used in named(path, text))
     for line in code(path + '.rt').split('\n'):
-        if line.startswith('ghost use Rattle·') and any(is_used(n, text) for n in brought(line)):
+        if line.startswith('ghost use Rattle.') and any(is_used(n, text) for n in brought(line)):
             yield from (used for _, used in named(path, line))
 
 # ── imports that nothing uses ──
@@ -100,11 +100,11 @@ def brought(line):
     names = listed.group(1).split(',') if listed else [re.split(r'::|\.', line.strip().rstrip(';'))[-1]]
     return [n.split(' as ')[-1].strip() for n in names]
 
-# `_+_` is used where `+` stands, `_>>=_` where a `do` does
+# `◌+◌` is used where `+` stands, `◌>>=◌` where a `do` does
 def is_used(name, body):
-    if name == '_>>=_':
+    if name == '◌>>=◌':
         return re.search(r'\bdo\b', body) is not None
-    parts = [p for p in name.split('_') if p] if name.startswith('_') or name.endswith('_') else [name]
+    parts = [p for p in name.split('◌') if p]
     return all(re.search(rf'(?<!{WORD}){re.escape(p)}(?!{WORD})' if re.match(r'\w', p) else re.escape(p), body) for p in parts)
 
 # in code and in these files of specs/

@@ -2,7 +2,7 @@
  * Paqlluri: loads bytecode modules of tariffs, and answers which type descends from which, how many do, how long a chain of
  * parents is, and which family of two types is the nearest.
  *
- * Link target/staticlib/libpaqlluri.a, which `rt staticlib paqlluri` proves and writes (x86-64, System V ABI).
+ * Link target/staticlib/libpaqlluri.a, which `tools/library` proves and writes (x86-64, System V ABI).
  * It needs memcpy and memset and nothing else: no heap, no files, no globals. The calls are reentrant, and
  * threads may call them at once on slices of their own, or share a linked table that none of them writes.
  * A call takes less than 96 KiB of stack where the host list has at most 512 entries (80 KB were measured, on a

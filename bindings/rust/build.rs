@@ -13,7 +13,7 @@ fn main() {
     let library = folder.join("libpaqlluri.a");
     if !library.is_file() {
         println!(
-            "cargo::error=there is no {}: run `rt staticlib paqlluri` in the repository, \
+            "cargo::error=there is no {}: run `tools/library` in the repository, \
              or name the folder that has it in PAQLLURI_LIB",
             library.display()
         );
@@ -24,7 +24,7 @@ fn main() {
     println!("cargo::rustc-link-lib=static=paqlluri");
 }
 
-/// Where `rt staticlib` writes in the repository that this crate stands in.
+/// Where `tools/library` writes in the repository that this crate stands in.
 fn repository() -> PathBuf {
     PathBuf::from(variable("CARGO_MANIFEST_DIR")).join("../../target/staticlib")
 }

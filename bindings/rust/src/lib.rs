@@ -28,7 +28,7 @@
 //! # }
 //! ```
 //!
-//! The loader itself is not Rust: this crate links `libpaqlluri.a`, which `rt staticlib paqlluri` proves and
+//! The loader itself is not Rust: this crate links `libpaqlluri.a`, which `tools/library` proves and
 //! writes, and the proofs are about that. There is no heap, no global and no dependency; a call takes less than
 //! 96 KiB of stack where the host list has at most 512 entries, and 1.6 MB more where it has more or says so, which
 //! the stack of a thread of std holds; threads may call at once.

@@ -1,19 +1,17 @@
 -- What the sheet states: its edition in word 0, and how many members a part has, in the word where the layout says.
 use Prim.Native.Nat.{ℕ, ◌<◌}
-use mathlib.Core.Path.{◌≡◌, sym, ap, ◌∙◌}
+use mathlib.Core.Path.{◌≡◌, sym, ◌∙◌}
 use mathlib.Core.List.{List}
 use native.Mathlib.Omega.{arith}
 use lib.ListN.{get_or}
 use Rattle.blocks.specs.Blocks.{words, edition_word}
 use Rattle.blocks.specs.Frame.{first_words}
 use Rattle.blocks.specs.FirstWords.{first_words_at}
-use Rattle.reader.specs.Reader.{word, many}
-use Rattle.reader.specs.ReaderLaws.{then_inv, stands_in, word_codes}
+use Rattle.reader.specs.ReaderLaws.{stands_in, word_codes}
 use Rattle.reader.specs.SizeLaws.{list_count}
 use Rattle.open_layout.specs.LayoutLaws.{Located}
 use Rattle.open_layout.specs.Opened.{module_in}
 use Rattle.open_layout.specs.declared.Layout.{Layout}
-use Rattle.open_sheet.specs.declared.Counts.{Counts}
 use Rattle.open_sheet.specs.Ready.{counts_of}
 
 module _ (b : List ℕ) (l : Layout) (x : Located (first_words b l.words) (module_in (first_words b l.words)) l) where

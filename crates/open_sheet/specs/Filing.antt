@@ -1,6 +1,6 @@
 -- The index in lent words, step by step up to a sheet that is ready.
-use Rattle.std.specs.Prelude.{ℕ, suc, ◌+◌, ◌*◌, ◌≤◌, ◌<◌, ◌≡◌, refl, List, [], ◌++◌, Bool, true, false, drop}
-use Rattle.std.proofs.Common.{sym, subst, ◌∙◌, arith, zero-add, length-append, get_or-append-add}
+use Rattle.std.specs.Prelude.{ℕ, ◌+◌, ◌*◌, ◌≤◌, ◌<◌, ◌≡◌, refl, List, ◌++◌, true, false, drop}
+use Rattle.std.proofs.Common.{subst, ◌∙◌, arith, zero-add, length-append, get_or-append-add}
 use Rattle.std.proofs.Math.Path.{ap}
 use Rattle.std.proofs.Math.Numerals.{add-one}
 use Rattle.std.proofs.Math.ListN.{length, get_or, get_or-append}
@@ -10,7 +10,7 @@ use Rattle.lists.specs.Lists.{all_of}
 use Rattle.blocks.specs.ByteLaws.{is_byte, is_word}
 use Rattle.blocks.specs.Frame.{first_words}
 use Rattle.blocks.specs.FirstWords.{first_words_small}
-use Rattle.reader.specs.Reader.{Reader, got}
+use Rattle.reader.specs.Reader.{Reader}
 use Rattle.reader.specs.Text.{string}
 use Rattle.sheet.specs.Decode.{type_def, const_of, import_of, function_of}
 use Rattle.open_layout.specs.LayoutLaws.{Located}
@@ -21,7 +21,7 @@ use Rattle.open_index.specs.declared.Index.{Index}
 use Rattle.open_index.specs.Index.{edges_of, index, index_of}
 use Rattle.open_index.specs.IndexLaws.{Indexed}
 use Rattle.open_index.specs.SheetIndex.{strings_indexed, types_indexed, consts_indexed, imports_indexed, funcs_indexed, index_fits}
-use Rattle.region.specs.Region.{part, Off, Apart, Frame}
+use Rattle.region.specs.Region.{part, Off, Frame}
 use Rattle.region.specs.RegionLaws.{part_is}
 use Rattle.canon.specs.Canon.{canon_string, canon_type}
 use Rattle.sorting.specs.Items.{Rising}
@@ -29,8 +29,7 @@ use Rattle.open_canon.specs.Contract.{Regions, Numbered}
 use Rattle.open_canon.specs.SheetNumbers.{types_rising, strings_rising}
 use Rattle.open_canon.specs.SheetRegions.{type_number_lem, string_number_lem}
 use Rattle.open_sheet.specs.declared.Counts.{Counts}
-use Rattle.open_sheet.specs.declared.Opened.{Opened}
-use Rattle.open_sheet.specs.Ready.{counts_of, Opens, Entries, Ready, pos_at}
+use Rattle.open_sheet.specs.Ready.{counts_of, Entries, Ready, pos_at}
 
 -- ── five lists side by side: where word i of each stands ──
 

@@ -1,4 +1,6 @@
 // An intact sheet made ready for the rules.
+#![tactic(auto)]
+
 ghost use Rattle.std.specs.Prelude.{◌≡◌, ◌+◌, ◌*◌, ◌≤◌, ◌<◌, length};
 ghost use Rattle.blocks.specs.Frame.{first_words};
 ghost use Rattle.open_layout.specs.LayoutLaws.{Located};

@@ -6,8 +6,7 @@ use descends::ChainLength;
 use error::TypeId;
 
 // Kind, 0 or 25, and how many numbers the chain of t has: 1 at a root, 0 where t is no struct type.
-#[unsafe(no_mangle)]
-pub extern "C" fn paqlluri_chain_length(table: &[u32], t: u32, answer: &mut [u32; 2])
+pub fn paqlluri_chain_length(table: &[u32], t: u32, answer: &mut [u32; 2])
     ensures { answer.new ≡ length_numbers (chain_length_in table.now t) }
 {
     match query::chain_length(table, TypeId(t)) {

@@ -1,4 +1,4 @@
-// The calls for C and Rust: a slice is a pointer and a length, and an answer of several numbers goes into lent words.
+// The calls for C and Rust, which paqlluri_c exports: an answer of several numbers goes into lent words.
 ghost use Rattle.std.specs.Prelude.{◌≡◌, length};
 ghost use Rattle.error.specs.Answer.{numbers};
 ghost use Rattle.load.specs.Load.{load, table_after, work_after};
@@ -15,8 +15,7 @@ pub mod lengths;
 pub mod nearest;
 
 // Loads a sheet under a host list; answers the six numbers.
-#[unsafe(no_mangle)]
-pub extern "C" fn paqlluri_load(
+pub fn paqlluri_load(
     sheet: &[u8],
     hosts: &[u8],
     table: &mut [u32],
@@ -32,16 +31,14 @@ pub extern "C" fn paqlluri_load(
 }
 
 // 1 where t is a or descends from it, 0 where not, 25 where the words are no linked table.
-#[unsafe(no_mangle)]
-pub extern "C" fn paqlluri_descends(table: &[u32], t: u32, a: u32) -> u32
+pub fn paqlluri_descends(table: &[u32], t: u32, a: u32) -> u32
     ensures { result ≡ descends table.now t a }
 {
     query::descends(table, TypeId(t), TypeId(a))
 }
 
 // Kind, 0 or 25, and how many types descend from a, itself included: 0 where a is no struct type.
-#[unsafe(no_mangle)]
-pub extern "C" fn paqlluri_family_size(table: &[u32], a: u32, answer: &mut [u32; 2])
+pub fn paqlluri_family_size(table: &[u32], a: u32, answer: &mut [u32; 2])
     ensures { answer.new ≡ size_numbers (size_in table.now a) }
 {
     match query::family_size(table, TypeId(a)) {
@@ -55,8 +52,7 @@ pub extern "C" fn paqlluri_family_size(table: &[u32], a: u32, answer: &mut [u32;
 }
 
 // Kind, 0 or 1, and how many struct types the sheet declares.
-#[unsafe(no_mangle)]
-pub extern "C" fn paqlluri_count_structs(sheet: &[u8], answer: &mut [u32; 2])
+pub fn paqlluri_count_structs(sheet: &[u8], answer: &mut [u32; 2])
     ensures { answer.new ≡ count_numbers (structs_in sheet.now) }
 {
     match family_sheets::count_structs(sheet) {

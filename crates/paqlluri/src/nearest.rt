@@ -6,8 +6,7 @@ use descends::NearestFamily;
 use error::TypeId;
 
 // Kind, 0 where it was found, 1 where there is none or 25, and the nearest family of t and u, 0 unless found.
-#[unsafe(no_mangle)]
-pub extern "C" fn paqlluri_nearest(table: &[u32], t: u32, u: u32, answer: &mut [u32; 2])
+pub fn paqlluri_nearest(table: &[u32], t: u32, u: u32, answer: &mut [u32; 2])
     ensures { answer.new ≡ nearest_numbers (nearest_in table.now t u) }
 {
     match query_nearest::nearest(table, TypeId(t), TypeId(u)) {

@@ -1,4 +1,6 @@
 // The nearest family of two types on a linked table: one scan of the spans.
+#![tactic(auto)]
+
 ghost use Rattle.std.specs.Prelude.{◌≡◌, true, ◌&&◌, leb, ltb, ◌+◌, ◌<◌};
 ghost use Rattle.descends.specs.Descends.{span_count, is_linked};
 ghost use Rattle.descends.specs.Nearest.{nearest_of, family_of, nearest_in};

@@ -1,4 +1,6 @@
 // Rule 2 on structs: field types, field names, methods, the struct's name.
+#![tactic(auto)]
+
 ghost use Rattle.std.specs.Prelude.{◌≡◌, []};
 ghost use Rattle.error.specs.Verdict.{verdict_of};
 ghost use Rattle.reader.specs.Reader.{many, list_of};

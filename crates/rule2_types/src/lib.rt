@@ -1,4 +1,6 @@
 // Rule 2 in code: types in order.
+#![tactic(auto)]
+
 ghost use Rattle.std.specs.Prelude.{◌≡◌};
 ghost use Rattle.lists.specs.Lists.{concat_map};
 ghost use Rattle.error.specs.Verdict.{verdict_of, judged_of};

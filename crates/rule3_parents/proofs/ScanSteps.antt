@@ -2,12 +2,12 @@
 use Prim.Native.Nat.{ℕ, ◌+◌, ◌-◌, ◌≤◌, ◌<◌}
 use mathlib.Core.Path.{◌≡◌, refl, sym, ap, ◌∙◌}
 use mathlib.Core.List.{List, [], ◌++◌}
-use mathlib.Core.Bool.{Bool, true, false, not, ◌&&◌}
+use mathlib.Core.Bool.{Bool, true, false, ◌&&◌}
 use native.Mathlib.Omega.{arith}
 use native.Mathlib.Numerals.{add-one}
 use lib.Dec.{leb}
 use lib.ListN.{length, get_or, drop}
-use borrow.Author.Tests.{leb-true, leb-false, not-true, not-false}
+use borrow.Author.Tests.{leb-true, leb-false}
 use Rattle.lists.specs.Lists.{is_front}
 use Rattle.lists.specs.ListLaws.{and_first, and_second}
 use Rattle.lists.specs.FrontLaws.{front_long, front_next, front_differs, front_end}
@@ -25,7 +25,7 @@ use Rattle.open_sheet.specs.declared.Opened.{Opened}
 use Rattle.open_sheet.specs.Ready.{Ready}
 use Rattle.open_sheet.specs.ReadyLaws.{types_in, count_types}
 use Rattle.law_judging.specs.Clearing.{Clears, clears_start, clears_next, clears_holds, clears_stop}
-use Rattle.parents.specs.Forest.{other, sub, entry}
+use Rattle.parents.specs.Forest.{sub, entry}
 use Rattle.parents.specs.Parents.{field_words, fields_first, short_chain, child_faults, parent_faults, parents_faults}
 use Rattle.rule3_parents.specs.Child.{parent_word, extends, scan_faults}
 use Rattle.rule3_parents.specs.ParentWords.{parent_words, chain_in}
@@ -176,17 +176,17 @@ module _ (most : ℕ) (ws w : List ℕ) (o : Opened) (y : Ready ws w o) where
       scan_skip e = passed most types found t x (types_in ws w o y t h) (no_faults_lem most types t (type_at types t) parent_laid e)
 
       module _ (e : p ≡ 0 → ⊥) {r : Bool} (f : r ≡ extends types (p - 1) t) where
-        pub unfit_stop : not r ≡ true → Broken BadParent ≡ verdict_of (scan_faults most types)
+        pub unfit_stop : r ≡ false → Broken BadParent ≡ verdict_of (scan_faults most types)
         unfit_stop g =
             stopped most types found t x (types_in ws w o y t h)
-            (unfit most types t (p - 1) (sym f ∙ not-true r g)
+            (unfit most types t (p - 1) (sym f ∙ g)
             ∙ sym (ap verdict_of (child_faults_lem most types t (type_at types t) (p - 1) (entry_sub (type_at types t) parent_laid e))))
 
-        pub compare_start : {n : ℕ} → not r ≡ false → n ≡ length (field_words (struct_of (type_at types (p - 1)))) →
+        pub compare_start : {n : ℕ} → r ≡ true → n ≡ length (field_words (struct_of (type_at types (p - 1)))) →
             Compares most types found t p n 0
         unfolding extends fields_first
         compare_start {n} g c =
-            let b = sym f ∙ not-false r g in
+            let b = sym f ∙ g in
             let u = field_words (struct_of (type_at types (p - 1))) in
             let v = field_words (struct_of (type_at types t)) in
             let s = is_struct (type_at types (p - 1)) in

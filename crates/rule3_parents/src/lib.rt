@@ -1,4 +1,6 @@
 // Rule 3 in code: parents, per type.
+#![tactic(auto)]
+
 ghost use Rattle.std.specs.Prelude.{◌≡◌, ◌+◌, ◌<◌, length, get_or};
 ghost use Rattle.error.specs.Verdict.{verdict_of, judged_of};
 ghost use Rattle.sheet.specs.Module.{type_at, struct_of, is_struct};

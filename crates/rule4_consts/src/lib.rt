@@ -1,4 +1,6 @@
 // Rule 4 in code: constants in order.
+#![tactic(auto)]
+
 ghost use Rattle.std.specs.Prelude.{◌≡◌, ◌+◌, ◌*◌, ◌<◌, length, set};
 ghost use Rattle.error.specs.Verdict.{verdict_of, judged_of};
 ghost use Rattle.consts.specs.Consts.{consts_faults};

@@ -1,4 +1,6 @@
 // How deep a constant is, or how it is broken first.
+#![tactic(auto)]
+
 ghost use Rattle.std.specs.Prelude.{◌≡◌, [], ◌+◌, ◌*◌, ◌≤◌, ◌<◌, max, length, get_or};
 ghost use Rattle.reader.specs.Reader.{word as word_of, many};
 ghost use Rattle.reader.specs.Value.{Whole, value_of};

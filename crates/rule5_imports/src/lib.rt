@@ -1,4 +1,6 @@
 // Rule 5 in code: imports, each linked to its place in the host list.
+#![tactic(auto)]
+
 ghost use Rattle.std.specs.Prelude.{◌≡◌, ◌+◌, ◌*◌, ◌<◌, length, set};
 ghost use Rattle.std.proofs.Math.Option.{none};
 ghost use Rattle.blocks.specs.Frame.{first_words};

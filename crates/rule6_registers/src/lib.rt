@@ -1,4 +1,6 @@
 // Whether the parameters of a signature are the first registers, compared canonically.
+#![tactic(auto)]
+
 ghost use Rattle.std.specs.Prelude.{◌≡◌, []};
 ghost use Rattle.reader.specs.Reader.{list_of};
 ghost use Rattle.reader.specs.Value.{Whole, value_of};

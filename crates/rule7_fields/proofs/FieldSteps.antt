@@ -200,35 +200,35 @@ module _ (o : Opened) (c : Frame) (i : Inst) {code : ℕ} {kinds : List FieldKin
     unfolding slots_of kind_in slot_of
     by_a = slot_tested A 0 refl ha ta
 
-    pub fails_a : not ra ≡ true → false ≡ no_faults (slots_faults o c i)
+    pub fails_a : ra ≡ false → false ≡ no_faults (slots_faults o c i)
     unfolding slots_faults
     fails_a n =
         let x = slot_faults o c i A in
         let y = slot_faults o c i B in
         let z = slot_faults o c i W in
-        sym (broken_left (x ++ y ++ z) (slot_faults o c i C) (broken_left (x ++ y) z (broken_left x y (sym by_a ∙ not-true ra n))))
+        sym (broken_left (x ++ y ++ z) (slot_faults o c i C) (broken_left (x ++ y) z (broken_left x y (sym by_a ∙ n))))
 
-    module _ (na : not ra ≡ false) {b : ℕ} {rb : Bool} (hb : b ≡ slot_b (inst i)) (tb : rb ≡ no_faults (kind_faults o c (get_or kinds 1 d) b)) where
+    module _ (na : ra ≡ true) {b : ℕ} {rb : Bool} (hb : b ≡ slot_b (inst i)) (tb : rb ≡ no_faults (kind_faults o c (get_or kinds 1 d) b)) where
       by_b : rb ≡ no_faults (slot_faults o c i A ++ slot_faults o c i B)
       unfolding slots_of kind_in slot_of
-      by_b = slot_tested B 1 refl hb tb ∙ sym (both (slot_faults o c i A) (slot_faults o c i B) (sym by_a ∙ not-false ra na))
+      by_b = slot_tested B 1 refl hb tb ∙ sym (both (slot_faults o c i A) (slot_faults o c i B) (sym by_a ∙ na))
 
-      pub fails_b : not rb ≡ true → false ≡ no_faults (slots_faults o c i)
+      pub fails_b : rb ≡ false → false ≡ no_faults (slots_faults o c i)
       unfolding slots_faults
       fails_b n =
           let x = slot_faults o c i A ++ slot_faults o c i B in
           let z = slot_faults o c i W in
-          sym (broken_left (x ++ z) (slot_faults o c i C) (broken_left x z (sym by_b ∙ not-true rb n)))
+          sym (broken_left (x ++ z) (slot_faults o c i C) (broken_left x z (sym by_b ∙ n)))
 
-      module _ (nb : not rb ≡ false) {w : ℕ} {rt : Bool} (hw : w ≡ slot_w (inst i)) (tw : rt ≡ no_faults (kind_faults o c (get_or kinds 2 d) w)) where
+      module _ (nb : rb ≡ true) {w : ℕ} {rt : Bool} (hw : w ≡ slot_w (inst i)) (tw : rt ≡ no_faults (kind_faults o c (get_or kinds 2 d) w)) where
         by_w : rt ≡ no_faults (slot_faults o c i A ++ slot_faults o c i B ++ slot_faults o c i W)
         unfolding slots_of kind_in slot_of
-        by_w = slot_tested W 2 refl hw tw ∙ sym (both (slot_faults o c i A ++ slot_faults o c i B) (slot_faults o c i W) (sym by_b ∙ not-false rb nb))
+        by_w = slot_tested W 2 refl hw tw ∙ sym (both (slot_faults o c i A ++ slot_faults o c i B) (slot_faults o c i W) (sym by_b ∙ nb))
 
-        pub fails_w : not rt ≡ true → false ≡ no_faults (slots_faults o c i)
+        pub fails_w : rt ≡ false → false ≡ no_faults (slots_faults o c i)
         unfolding slots_faults
-        fails_w n = sym (broken_left (slot_faults o c i A ++ slot_faults o c i B ++ slot_faults o c i W) (slot_faults o c i C) (sym by_w ∙ not-true rt n))
+        fails_w n = sym (broken_left (slot_faults o c i A ++ slot_faults o c i B ++ slot_faults o c i W) (slot_faults o c i C) (sym by_w ∙ n))
 
-        pub by_c : not rt ≡ false → {v : ℕ} {r : Bool} → v ≡ slot_c (inst i) → r ≡ no_faults (kind_faults o c (get_or kinds 3 d) v) → r ≡ no_faults (slots_faults o c i)
+        pub by_c : rt ≡ true → {v : ℕ} {r : Bool} → v ≡ slot_c (inst i) → r ≡ no_faults (kind_faults o c (get_or kinds 3 d) v) → r ≡ no_faults (slots_faults o c i)
         unfolding slots_of kind_in slot_of slots_faults
-        by_c n h t = slot_tested C 3 refl h t ∙ sym (both (slot_faults o c i A ++ slot_faults o c i B ++ slot_faults o c i W) (slot_faults o c i C) (sym by_w ∙ not-false rt n))
+        by_c n h t = slot_tested C 3 refl h t ∙ sym (both (slot_faults o c i A ++ slot_faults o c i B ++ slot_faults o c i W) (slot_faults o c i C) (sym by_w ∙ n))

@@ -1,4 +1,6 @@
 // The fields of an instruction, each by its kind.
+#![tactic(auto)]
+
 ghost use Rattle.std.specs.Prelude.{◌≡◌, ◌<◌};
 ghost use Rattle.error.specs.Verdict.{verdict_of};
 ghost use Rattle.sheet.specs.Module.{opcode};

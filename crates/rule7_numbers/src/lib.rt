@@ -1,4 +1,6 @@
 // Rules over an instruction's numbers alone.
+#![tactic(auto)]
+
 ghost use Rattle.std.specs.Prelude.{◌≡◌, ◌≤◌};
 ghost use Rattle.error.specs.Verdict.{verdict_of};
 ghost use Rattle.code.specs.Code.{arity_faults};

@@ -1,22 +1,22 @@
 -- Where the parts of a function stand, from where the steps through them end.
 use Prim.Native.Nat.{ℕ, ◌+◌, ◌<◌}
 use mathlib.Core.Path.{◌≡◌, refl, sym, ap, subst, ◌∙◌}
-use mathlib.Core.List.{List, []}
+use mathlib.Core.List.{List}
 use native.Mathlib.Omega.{arith}
 use native.Mathlib.Decide.{dec_lt}
-use lib.ListN.{length, get_or}
+use lib.ListN.{get_or}
 use Rattle.blocks.specs.Blocks.{words}
 use Rattle.blocks.specs.Frame.{first_words}
 use Rattle.reader.specs.declared.Step.{Step}
 use Rattle.reader.specs.declared.Step.TheVariants.{Next, Broken}
-use Rattle.reader.specs.Reader.{Got, broken, got, Reader, and_then, word, many, list_of}
+use Rattle.reader.specs.Reader.{broken, got, Reader, word, many, list_of}
 use Rattle.reader.specs.ReaderLaws.{then_inv}
 use Rattle.reader.specs.Step.{step_of}
 use Rattle.reader.specs.StepLaws.{word_read, word_none}
 use Rattle.reader.specs.Value.{Whole, value_of}
 use Rattle.reader.specs.ValueLaws.{whole_inv, not_whole, value_got}
 use Rattle.reader.specs.RecordSteps.{sized_word, sized_list}
-use Rattle.sheet.specs.Module.{Arg, Handler, Func}
+use Rattle.sheet.specs.Module.{Func}
 use Rattle.sheet.specs.Decode.{value_type, param_list, arg_of, handler_of, switch_of, inst_of, function_of}
 use Rattle.sheet.specs.SizeLaws.{handler_sized, shapes_alike}
 use Rattle.code.specs.Callee.{no_func}

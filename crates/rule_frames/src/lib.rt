@@ -1,4 +1,6 @@
 // A function with its parts at hand, for rules over its code.
+#![tactic(auto)]
+
 ghost use Rattle.std.specs.Prelude.{◌≡◌, ◌+◌, ◌*◌, ◌<◌};
 ghost use Rattle.open_sheet.specs.Ready.{Ready, sheet_words};
 ghost use Rattle.region.specs.Region.{Off};

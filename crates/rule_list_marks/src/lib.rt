@@ -1,4 +1,6 @@
 // No name twice, found by a mark for each string: one pass sets the marks, one clears them.
+#![tactic(auto)]
+
 ghost use Rattle.std.specs.Prelude.{◌≡◌, true, ◌+◌, ◌*◌, ◌≤◌, length};
 ghost use Rattle.blocks.specs.Blocks.{words};
 ghost use Rattle.open_sheet.specs.Ready.{Ready, sheet_words};

@@ -1,4 +1,6 @@
 // Parameter lists and call shapes in code: `ParamList::validate` and `fits`, `CallShape::validate`.
+#![tactic(auto)]
+
 ghost use Rattle.std.specs.Prelude.{◌≡◌, []};
 ghost use Rattle.std.proofs.Math.Option.{none};
 ghost use Rattle.error.specs.Verdict.{verdict_of};

@@ -1,4 +1,6 @@
 // What rules 5 to 8 ask of a signature type.
+#![tactic(auto)]
+
 ghost use Rattle.std.specs.Prelude.{◌≡◌, [], length};
 ghost use Rattle.lists.specs.Lists.{all_of};
 ghost use Rattle.blocks.specs.Frame.{first_words};

@@ -16,7 +16,7 @@ use Rattle.error.specs.declared.Verdict.{Verdict}
 use Rattle.error.specs.declared.Verdict.TheVariants.{Holds}
 use Rattle.error.specs.Answer.{in_range}
 use Rattle.error.specs.Verdict.{verdict_of}
-use Rattle.reader.specs.Reader.{broken, got, Reader, word}
+use Rattle.reader.specs.Reader.{broken, got, Reader}
 use Rattle.reader.specs.StepLaws.{word_read, word_none}
 use Rattle.reader.specs.Value.{Whole, value_of}
 use Rattle.reader.specs.ValueLaws.{not_whole, value_got}

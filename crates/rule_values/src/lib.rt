@@ -1,4 +1,6 @@
 // Value types, and lists of them.
+#![tactic(auto)]
+
 ghost use Rattle.std.specs.Prelude.{◌≡◌};
 ghost use Rattle.error.specs.Verdict.{verdict_of};
 ghost use Rattle.reader.specs.Reader.{list_of};

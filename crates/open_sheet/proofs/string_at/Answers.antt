@@ -1,0 +1,6 @@
+use borrow.Author.Rules.{rules}
+use Rattle.open_sheet.specs.ReadyLaws.{pos_at_lem}
+use Rattle.open_sheet.proofs.string_at.Goals as goal
+
+pub returns : goal.returns
+returns c = search (rules, pos_at_lem)

@@ -1,0 +1,12 @@
+use Rattle.blocks.specs.Frame.{first_words}
+use Rattle.sheet.specs.Decode.{value_type}
+use Rattle.open_layout.specs.Opened.{module_in}
+use Rattle.types.specs.Types.{value_faults}
+use Rattle.law_judging.specs.Judging.{Judges}
+use Rattle.rule_values.proofs.check_values.Given as goal
+
+abbrev pub invariant-loop-left : goal.invariant-loop-left
+invariant-loop-left l = Judges value_type (value_faults (module_in (first_words l.sheet l.o.layout.words))) (first_words l.sheet l.o.layout.words) l.at l.left l.p
+
+abbrev pub decreases-loop-left : goal.decreases-loop-left
+decreases-loop-left l = l.left
