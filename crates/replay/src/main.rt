@@ -95,12 +95,10 @@ fn are_same(a: SixNumbers, b: SixNumbers) -> bool {
 
 // Every word from that place on is x.
 fn is_filled(words: &[u32], from: usize, x: u32) -> bool {
-    let mut end = words.len();
-    while from < end {
-        if words[end - 1] != x {
+    for i in from..words.len() {
+        if words[i] != x {
             return false;
         }
-        end -= 1;
     }
     true
 }
@@ -127,12 +125,10 @@ fn is_stored(words: &[u32], linked: &[u8], i: usize) -> bool {
 
 // The first n words are the stored ones.
 fn are_stored(words: &[u32], linked: &[u8], n: usize) -> bool {
-    let mut left = n;
-    while 0 < left {
-        if !is_stored(words, linked, n - left) {
+    for i in 0..n {
+        if !is_stored(words, linked, i) {
             return false;
         }
-        left -= 1;
     }
     true
 }
