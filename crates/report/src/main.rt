@@ -2,7 +2,7 @@
 // of an accepted sheet, each struct type with how many types descend from it, itself included. Last both sums over all sheets.
 #![tactic(auto)]
 
-ghost use Rattle.std.specs.Prelude.{IfOk, IfSome, MatchOption};
+ghost use Rattle.std.specs.Prelude.{IfOk};
 ghost use Rattle.report_lines.specs.Reported.{AddsSheet};
 ghost use Rattle.sheet_report.specs.Sums.{SpareBoth, SparesOne};
 
