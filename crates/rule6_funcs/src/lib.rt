@@ -1,4 +1,6 @@
 // Rule 6 in code: functions by number.
+#![tactic(auto)]
+
 ghost use Rattle.std.specs.Prelude.{◌≡◌, [], ◌<◌};
 ghost use Rattle.error.specs.Verdict.{verdict_of, judged_of};
 ghost use Rattle.open_sheet.specs.Ready.{Ready, sheet_words, module_of};

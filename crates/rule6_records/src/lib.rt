@@ -1,4 +1,6 @@
 // Rule 6 on a function's record: signature, registers and parameters, then the four lists.
+#![tactic(auto)]
+
 ghost use Rattle.std.specs.Prelude.{◌≡◌, [], ◌<◌};
 ghost use Rattle.error.specs.Verdict.{verdict_of};
 ghost use Rattle.open_sheet.specs.Ready.{Opens, Ready, sheet_words, module_of};

@@ -1,4 +1,6 @@
 // How many arguments an import takes: the most by its signature, the fewest counted once for each import.
+#![tactic(auto)]
+
 ghost use Rattle.std.specs.Prelude.{◌≡◌, ◌+◌, ◌*◌, ◌≤◌, ◌<◌, length, get_or};
 ghost use Rattle.blocks.specs.Blocks.{words};
 ghost use Rattle.code.specs.Callee.{import_at};

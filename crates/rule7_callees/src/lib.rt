@@ -1,4 +1,6 @@
 // What an instruction names: what it calls, the kinds of types it makes.
+#![tactic(auto)]
+
 ghost use Rattle.std.specs.Prelude.{◌≡◌, ◌+◌, ◌*◌, ◌≤◌, ◌<◌, length, get_or};
 ghost use Rattle.error.specs.Verdict.{verdict_of};
 ghost use Rattle.imports.specs.Params.{sig_params};

@@ -2,11 +2,10 @@
 use Prim.Native.Nat.{ℕ}
 use mathlib.Core.Path.{◌≡◌, refl, sym, ap, ◌∙◌}
 use mathlib.Core.List.{List, [], ◌∷◌, ◌++◌}
-use mathlib.Core.Bool.{Bool, true, false, not}
+use mathlib.Core.Bool.{Bool, true, false}
 use native.Mathlib.Omega.{arith}
 use lib.Dec.{ltb}
 use lib.ListN.{get_or}
-use borrow.Author.Tests.{not-true, not-false}
 use Rattle.error.specs.declared.What.TheVariants.{Functions, Constants, Registers, Imports, Globals, BranchTargets, Tables, Names, TypeRefs, Captures, CallShapes}
 use Rattle.error.specs.declared.LoadErrorKind.{LoadErrorKind}
 use Rattle.error.specs.declared.Verdict.{Verdict}
@@ -16,7 +15,6 @@ use Rattle.error.specs.Verdict.{verdict_of}
 use Rattle.error.specs.VerdictLaws.{verdict_then, verdict_stop}
 use Rattle.sheet.specs.Module.{opcode, slot_a, slot_b, slot_c, slot_w}
 use Rattle.code.specs.declared.FieldKind.{FieldKind}
-use Rattle.code.specs.declared.FieldKind
 use Rattle.code.specs.Opcodes.{row}
 use Rattle.open_sheet.specs.declared.Opened.{Opened}
 use Rattle.rule7_words.specs.declared.Inst.{Inst}

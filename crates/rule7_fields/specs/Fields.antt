@@ -6,7 +6,6 @@ use Rattle.error.specs.Answer.{in_range}
 use Rattle.sheet.specs.Module.{opcode, slot_a, slot_b, slot_c, slot_w}
 use Rattle.sheet.specs.Module
 use Rattle.code.specs.declared.FieldKind.{FieldKind}
-use Rattle.code.specs.declared.FieldKind
 use Rattle.code.specs.Opcodes.{row}
 use Rattle.open_sheet.specs.declared.Opened.{Opened}
 use Rattle.rule7_words.specs.declared.Inst.{Inst}

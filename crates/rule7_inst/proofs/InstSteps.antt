@@ -23,12 +23,10 @@ use Rattle.open_sheet.specs.declared.Opened.{Opened}
 use Rattle.open_sheet.specs.Ready.{Opens, Ready}
 use Rattle.open_sheet.specs.ReadyLaws.{count_consts, count_imports, count_globals, count_funcs}
 use Rattle.code.specs.declared.FieldKind.{FieldKind}
-use Rattle.code.specs.declared.FieldKind
 use Rattle.code.specs.Opcodes.{Row, rows, row, step}
 use Rattle.code.specs.Opcodes as definitions
 use Rattle.code.specs.Code.{field_faults, fields_faults, rule_faults}
 use Rattle.rule7_words.specs.declared.Inst.{Inst}
-use Rattle.rule7_kinds.specs.declared.Slot.TheVariants.{A, B, W, C}
 use Rattle.rule7_opcodes.specs.declared.Rule.{Rule}
 use Rattle.rule7_words.specs.Insts.{inst}
 use Rattle.rule7_kinds.specs.Slots.{kind_in}

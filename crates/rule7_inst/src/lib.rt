@@ -1,4 +1,6 @@
 // Rule 7 for one instruction: its fields, then its own rule.
+#![tactic(auto)]
+
 ghost use Rattle.std.specs.Prelude.{◌≡◌, ◌++◌, ◌≤◌};
 ghost use Rattle.error.specs.Verdict.{verdict_of};
 ghost use Rattle.reader.specs.Value.{Whole, value_of};

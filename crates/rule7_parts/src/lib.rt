@@ -1,4 +1,6 @@
 // Rule 7 before the instructions: the last one, handlers, tables.
+#![tactic(auto)]
+
 ghost use Rattle.std.specs.Prelude.{◌≡◌, ◌+◌, ◌*◌, ◌≤◌, ◌<◌, length, get_or};
 ghost use Rattle.blocks.specs.Blocks.{words};
 ghost use Rattle.error.specs.declared.What.TheVariants.{TableTargets};

@@ -1,5 +1,7 @@
 // Rule 8 in code, after start: exports.
 // In edition 2 a mark for each canonical string, from word 6 * words of work on, tells which names the exports before have.
+#![tactic(auto)]
+
 ghost use Rattle.std.specs.Prelude.{◌≡◌, ◌+◌, ◌*◌, ◌<◌, length};
 ghost use Rattle.error.specs.Verdict.{verdict_of, judged_of};
 ghost use Rattle.hooks.specs.Hooks.{export_at, index_faults, name_faults, export_faults, exports_faults};

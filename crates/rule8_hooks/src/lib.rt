@@ -1,4 +1,6 @@
 // Rule 8 in code: hooks.
+#![tactic(auto)]
+
 ghost use Rattle.std.specs.Prelude.{◌≡◌, ◌<◌};
 ghost use Rattle.error.specs.Verdict.{verdict_of, judged_of};
 ghost use Rattle.reader.specs.Reader.{list_of};

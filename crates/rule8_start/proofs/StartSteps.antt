@@ -20,7 +20,6 @@ use Rattle.error.specs.declared.Judged.TheVariants.{Passed}
 use Rattle.error.specs.Answer.{in_module, unless, in_range}
 use Rattle.error.specs.Verdict.{verdict_of, judged_of, placed}
 use Rattle.error.specs.VerdictLaws.{placed_faults_lem}
-use Rattle.reader.specs.Reader.{word}
 use Rattle.reader.specs.ReaderLaws.{stands_in, stands_at, word_codes}
 use Rattle.imports.specs.Params.{sig_params, sig_results}
 use Rattle.code.specs.Callee.{no_func, func_at, no_captures}

@@ -1,4 +1,6 @@
 // Rule 8 in code, after the hooks: start.
+#![tactic(auto)]
+
 ghost use Rattle.std.specs.Prelude.{◌≡◌, ◌+◌, ◌<◌};
 ghost use Rattle.error.specs.Verdict.{verdict_of, judged_of};
 ghost use Rattle.code.specs.Callee.{func_at};

@@ -1,5 +1,7 @@
 // The catch table of a function: for each position the lowest-numbered handler that covers it.
 // Near-linear: each handler paints the free positions of its range, found by union-find: links with path halving.
+#![tactic(auto)]
+
 ghost use Rattle.std.specs.Prelude.{◌≡◌, ℕ, ◌+◌, ◌*◌, ◌≤◌, ◌<◌, length};
 ghost use Rattle.region.specs.Region as region;
 ghost use Rattle.region.specs.Region.{Off, word_at};

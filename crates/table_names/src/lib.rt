@@ -1,4 +1,6 @@
 // The names of a struct's fields and methods, by rising canonical number, the first of equals kept.
+#![tactic(auto)]
+
 ghost use Rattle.std.specs.Prelude.{◌≡◌, [], ◌+◌, ◌*◌, ◌≤◌, ◌<◌, length, get_or};
 ghost use Rattle.blocks.specs.Blocks.{words};
 ghost use Rattle.reader.specs.Reader.{list_of, encode_list};

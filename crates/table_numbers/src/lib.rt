@@ -1,4 +1,6 @@
 // Lists of canonical numbers of the linked table: names, type refs.
+#![tactic(auto)]
+
 ghost use Rattle.std.specs.Prelude.{◌≡◌, [], map, ◌+◌, ◌≤◌, ◌<◌, length, get_or};
 ghost use Rattle.error.specs.declared.What.TheVariants.{Types};
 ghost use Rattle.error.specs.Answer.{in_range};

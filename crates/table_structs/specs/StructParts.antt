@@ -1,5 +1,5 @@
 -- Parts of the record of a struct by position, and what is asked of what stands there.
-use Rattle.std.specs.Prelude.{ℕ, ◌+◌, min, ◌≡◌, List, [], ◌∷◌, ◌++◌}
+use Rattle.std.specs.Prelude.{ℕ, min, ◌≡◌, List, [], ◌∷◌, ◌++◌}
 use mathlib.Core.List
 use Rattle.error.specs.declared.LoadErrorKind.{LoadErrorKind}
 use Rattle.reader.specs.Reader.{Reader, encode_list, encode_words}

@@ -1,4 +1,6 @@
 // The record of a struct: parent + 1, fields, reference fields, then the names of fields and of methods.
+#![tactic(auto)]
+
 ghost use Rattle.std.specs.Prelude.{◌≡◌, ◌+◌, ◌*◌, ◌≤◌, ◌<◌, length};
 ghost use Rattle.sheet.specs.Module.{coroutine};
 ghost use Rattle.sheet.specs.Decode.{struct_type};

@@ -1,4 +1,6 @@
 // Lists of value types of the linked table, and the places of references.
+#![tactic(auto)]
+
 ghost use Rattle.std.specs.Prelude.{◌≡◌, map, ◌+◌, ◌*◌, ◌≤◌, ◌<◌, min, length};
 ghost use Rattle.blocks.specs.Frame.{first_words};
 ghost use Rattle.reader.specs.Reader.{encode_words};

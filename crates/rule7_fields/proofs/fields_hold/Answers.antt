@@ -1,4 +1,3 @@
-use borrow.Author.Rules.{rules}
 use Rattle.rule7_fields.proofs.FieldSteps.{fails_a, fails_b, fails_w, by_c}
 use Rattle.rule7_fields.proofs.fields_hold.Goals as goal
 

@@ -1,0 +1,16 @@
+use borrow.Author.Rules.{rules}
+use Rattle.open_sheet.specs.ReadyLaws.{func_room, captures_room}
+use Rattle.rule8_hooks.proofs.BoundSteps.{function_fits_lem, function_captures}
+use Rattle.rule8_hooks.proofs.function_fits.Goals as goal
+
+pub at-requires : goal.at-requires
+at-requires c = search (rules, func_room, captures_room, function_fits_lem, function_captures)
+
+pub func_at-requires : goal.func_at-requires
+func_at-requires c = search (rules, func_room, captures_room, function_fits_lem, function_captures)
+
+pub returns-then-at-eq0 : goal.returns-then-at-eq0
+returns-then-at-eq0 c = search (rules, func_room, captures_room, function_fits_lem, function_captures)
+
+pub returns : goal.returns
+returns c = search (rules, func_room, captures_room, function_fits_lem, function_captures)

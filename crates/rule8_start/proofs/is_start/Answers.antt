@@ -1,0 +1,13 @@
+use borrow.Author.Rules.{rules}
+use Rattle.open_sheet.specs.ReadyLaws.{func_room}
+use Rattle.rule8_start.proofs.StartSteps.{start_both, start_takes}
+use Rattle.rule8_start.proofs.is_start.Goals as goal
+
+pub func_at-requires : goal.func_at-requires
+func_at-requires c = search (rules, func_room, start_both, start_takes)
+
+pub returns-then-param_count-eq0 : goal.returns-then-param_count-eq0
+returns-then-param_count-eq0 c = search (rules, func_room, start_both, start_takes)
+
+pub returns : goal.returns
+returns c = search (rules, func_room, start_both, start_takes)
