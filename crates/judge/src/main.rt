@@ -1,5 +1,5 @@
-// Prints of each file that the arguments name the verdict that `load` gives, as six numbers; the length of an accepted sheet's table is left out.
-// The host list is the file `hosts`.
+// Prints of each file that the arguments name the verdict that `load` gives, as six numbers; the length of an accepted sheet's table
+// is left out. The host list is the file `hosts`.
 #![tactic(auto)]
 
 use console::{argument, print_numbers, read_file};

@@ -1,5 +1,5 @@
-// Loads the sheet on standard input and prints the six numbers of the answer and, where it is accepted, the words of the linked table, sixteen to a line.
-// The host list is the file `hosts`.
+// Loads the sheet on standard input and prints the six numbers of the answer and, where it is accepted, the words of the linked table,
+// sixteen to a line. The host list is the file `hosts`.
 #![tactic(auto)]
 
 use console::{print_numbers, read_file, read_input};

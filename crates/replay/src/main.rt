@@ -1,6 +1,6 @@
 // Replays stored cases (tests/compare/README.md has their format) by `load`, with slices as long as the case says.
-// The six numbers must be the case's, the table's words its words where it is accepted, and every other word of table and work as `load` leaves it.
-// Prints how many cases were replayed, how many differed, and which.
+// The six numbers must be the case's, the table's words its words where it is accepted, and every other word of table and work
+// as `load` leaves it. Prints how many cases were replayed, how many differed, and which.
 #![tactic(auto)]
 
 use console::{argument, open_file, read_full};
