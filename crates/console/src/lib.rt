@@ -1,50 +1,75 @@
-// What programs share: input of at most 16 blocks, and the six numbers in print.
+// What programs share: arguments, input of at most 16 blocks, and the six numbers in print.
 #![tactic(auto)]
 
-ghost use Rattle.std.specs.Prelude.{◌≤◌};
-ghost use Rattle.io.specs.Counts.{IsPrefixLen};
+ghost use Rattle.std.specs.Prelude.{◌≤◌, IfSome};
+ghost use Rattle.console.specs.Counts.{IsPrefixLen};
 
 use error::numbers::SixNumbers;
-use libc::STDOUT_FILENO;
-
-fn print_after(n: u32) {
-    io::write_all(STDOUT_FILENO, b" ");
-    io::print_decimal(STDOUT_FILENO, n as u64);
-}
+use std::env::{Env, FillError};
+use std::fs::Files;
+use std::io::Read;
+use std::{fs, io, str};
 
 // The six numbers with single spaces and a line end.
-pub fn print_numbers(n: SixNumbers) {
-    io::print_decimal(STDOUT_FILENO, n.kind as u64);
-    print_after(n.word);
-    print_after(n.number);
-    print_after(n.second);
-    print_after(n.func);
-    print_after(n.pc);
-    io::write_all(STDOUT_FILENO, b"\n");
+pub fn print_numbers(rt: &impl Print, n: SixNumbers) -> io::Result<()> {
+    println!(rt;
+        "{} {} {} {} {} {}",
+        n.kind, n.word, n.number, n.second, n.func, n.pc
+    )
+}
+
+// Reads until bytes is full, the input ends or a read fails, and returns how many bytes it put at the start of bytes.
+pub fn read_full(from: &mut impl Read, bytes: &mut [u8]) -> usize
+    ensures { IsPrefixLen result bytes.new }
+{
+    let mut done = 0;
+    for _ in 0..bytes.len() {
+        match from.read(&mut bytes[done..]) {
+            Ok(n) if 0 < n => done += n,
+            _ => return done,
+        }
+    }
+    done
 }
 
 // Over 16 blocks count as no bytes.
-pub fn read_input(fd: i32, bytes: &mut [u8; 8193]) -> usize
+pub fn read_input(from: &mut impl Read, bytes: &mut [u8; 8193]) -> usize
     ensures upper_bound { result ≤ 8192 }
     ensures prefix_len { IsPrefixLen result bytes.new }
 {
-    let n = io::read_full(fd, bytes);
+    let n = read_full(from, bytes);
     if n < 8193 {
         return n;
     }
     0
 }
 
+// Opens a file by its name. A name that is not UTF-8 is an error, since std opens no such file.
+pub fn open_file<R: Files>(files: &R, name: &[u8]) -> io::Result<R::File> {
+    match str::from_utf8(name) {
+        Ok(path) => fs::open(files, path),
+        Err(_) => Err(io::Error::from(io::ErrorKind::InvalidFilename)),
+    }
+}
+
 // So does a file that cannot be opened.
-pub fn read_file(name: &[u8], bytes: &mut [u8; 8193]) -> usize
+pub fn read_file(files: &impl Files, name: &[u8], bytes: &mut [u8; 8193]) -> usize
     ensures upper_bound { result ≤ 8192 }
     ensures prefix_len { IsPrefixLen result bytes.new }
 {
-    let fd = os::open_read(name);
-    if fd < 0 {
-        return 0;
+    match open_file(files, name) {
+        Ok(mut file) => read_input(&mut file, bytes),
+        Err(_) => 0,
     }
-    let n = read_input(fd, bytes);
-    libc::close(fd);
-    n
+}
+
+// Argument i at the start of name, none past the last one. One that is longer than name counts as no bytes.
+pub fn argument(rt: &impl Env, i: usize, name: &mut [u8; 4096]) -> Option<usize>
+    ensures { IfSome result (λ n. IsPrefixLen n name.new) }
+{
+    match rt.arg(i, name) {
+        Ok(n) => Some(n),
+        Err(FillError::TooLong) => Some(0),
+        Err(FillError::NotPresent) => None,
+    }
 }

@@ -3,77 +3,69 @@
 #![tactic(auto)]
 
 use blocks::word;
-use libc::STDOUT_FILENO;
+use console::{argument, read_file};
 use open_layout::{Checked, Layout};
+use std::env::Env;
+use std::fs::Files;
+use std::io;
 
-fn print_count(n: u64) {
-    io::write_all(STDOUT_FILENO, b" ");
-    io::print_decimal(STDOUT_FILENO, n);
+fn print_count(rt: &impl Print, n: usize) -> io::Result<()> {
+    print!(rt; " {n}")
 }
 
-fn print_word(sheet: &[u8], at: usize) {
-    print_count(word(sheet, at) as u64);
+fn print_word(rt: &impl Print, sheet: &[u8], at: usize) -> io::Result<()> {
+    print_count(rt, word(sheet, at) as usize)
 }
 
-fn print_counts(sheet: &[u8], l: Layout) {
-    io::write_all(STDOUT_FILENO, b" intact");
-    print_count(l.words as u64);
-    print_word(sheet, l.strings);
-    print_word(sheet, l.types);
-    print_word(sheet, l.consts);
-    print_word(sheet, l.imports);
-    print_word(sheet, l.globals);
-    print_word(sheet, l.funcs);
-    print_word(sheet, l.hooks);
-    print_word(sheet, l.start);
-    print_word(sheet, l.exports);
+fn print_counts(rt: &impl Print, sheet: &[u8], l: Layout) -> io::Result<()> {
+    print!(rt; " intact")?;
+    print_count(rt, l.words)?;
+    print_word(rt, sheet, l.strings)?;
+    print_word(rt, sheet, l.types)?;
+    print_word(rt, sheet, l.consts)?;
+    print_word(rt, sheet, l.imports)?;
+    print_word(rt, sheet, l.globals)?;
+    print_word(rt, sheet, l.funcs)?;
+    print_word(rt, sheet, l.hooks)?;
+    print_word(rt, sheet, l.start)?;
+    print_word(rt, sheet, l.exports)
 }
 
-fn report(sheet: &[u8]) {
+fn report(rt: &impl Print, sheet: &[u8]) -> io::Result<()> {
     match open_layout::check_sheet(sheet) {
-        Checked::Intact(l) => {
-            print_counts(sheet, l);
-        }
-        Checked::Broken => {
-            io::write_all(STDOUT_FILENO, b" broken");
-        }
+        Checked::Intact(l) => print_counts(rt, sheet, l)?,
+        Checked::Broken => print!(rt; " broken")?,
     }
-    io::write_all(STDOUT_FILENO, b"\n");
+    println!(rt; "")
 }
 
 // Over 16 blocks, or a file that cannot be opened, count as no bytes.
-fn report_file(name: &[u8]) {
+fn report_file(rt: &(impl Files + Print), name: &[u8]) -> io::Result<()> {
     let mut bytes = [0u8; 8193];
-    let fd = os::open_read(name);
-    if fd < 0 {
-        report(&bytes[..0]);
-        return;
-    }
-    let n = io::read_full(fd, &mut bytes);
-    libc::close(fd);
-    if n < 8193 {
-        report(&bytes[..n]);
-    } else {
-        report(&bytes[..0]);
-    }
+    let n = read_file(rt, name, &mut bytes);
+    report(rt, &bytes[..n])
 }
 
-fn report_argument(i: usize) {
-    let mut name = io::buffer();
-    let n = os::arg(i, &mut name);
-    io::write_all(STDOUT_FILENO, &name[..n]);
-    report_file(&name[..n]);
+// False past the last argument.
+fn report_argument(rt: &(impl Env + Files + Print), i: usize) -> io::Result<bool> {
+    let mut name = [0u8; 4096];
+    let Some(n) = argument(rt, i, &mut name) else {
+        return Ok(false);
+    };
+    rt.write_all(&name[..n])?;
+    report_file(rt, &name[..n])?;
+    Ok(true)
 }
 
-fn report_arguments() {
-    let count = os::arg_count();
-    let mut left = count;
-    while 1 < left {
-        report_argument(count - left + 1);
-        left -= 1;
+fn report_arguments(rt: &(impl Env + Files + Print)) -> io::Result<()> {
+    for i in 1..usize::MAX {
+        if !report_argument(rt, i)? {
+            break;
+        }
     }
+    Ok(())
 }
 
-fn main() {
-    report_arguments();
+fn main(rt: HostRuntime) -> io::Result<()> {
+    report_arguments(&rt)
 }

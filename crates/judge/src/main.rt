@@ -1,9 +1,13 @@
-// Prints of each file that the arguments name the verdict that `load` gives, as six numbers; the length of an accepted sheet's table is left out.
-// The host list is the file `hosts`.
-use console::{print_numbers, read_file};
+// Prints of each file that the arguments name the verdict that `load` gives, as six numbers; the length of an accepted sheet's table
+// is left out. The host list is the file `hosts`.
+#![tactic(auto)]
+
+use console::{argument, print_numbers, read_file};
 use error::numbers::{SixNumbers, numbers};
-use libc::STDOUT_FILENO;
 use loader::load;
+use std::env::Env;
+use std::fs::Files;
+use std::io;
 
 // An accepted sheet gives six zeros, so that what is stored was written from the rules alone.
 fn verdict(n: SixNumbers) -> SixNumbers {
@@ -21,37 +25,42 @@ fn verdict(n: SixNumbers) -> SixNumbers {
 }
 
 // 16 blocks hold 2,032 words, for which 16,320 words of table and of work are enough.
-fn report(sheet: &[u8], hosts: &[u8]) {
+fn report(rt: &impl Print, sheet: &[u8], hosts: &[u8]) -> io::Result<()> {
     let mut table = [0u32; 16320];
     let mut work = [0u32; 16320];
-    print_numbers(verdict(numbers(load(sheet, hosts, &mut table, &mut work))));
+    let answer = numbers(load(sheet, hosts, &mut table, &mut work));
+    print_numbers(rt, verdict(answer))
 }
 
-fn report_file(name: &[u8]) {
+fn report_file(rt: &(impl Files + Print), name: &[u8]) -> io::Result<()> {
     let mut bytes = [0u8; 8193];
     let mut list = [0u8; 8193];
-    let n = read_file(name, &mut bytes);
-    let m = read_file(b"hosts", &mut list);
-    report(&bytes[..n], &list[..m]);
+    let n = read_file(rt, name, &mut bytes);
+    let m = read_file(rt, b"hosts", &mut list);
+    report(rt, &bytes[..n], &list[..m])
 }
 
-fn report_argument(i: usize) {
-    let mut name = io::buffer();
-    let n = os::arg(i, &mut name);
-    io::write_all(STDOUT_FILENO, &name[..n]);
-    io::write_all(STDOUT_FILENO, b" ");
-    report_file(&name[..n]);
+// False past the last argument.
+fn report_argument(rt: &(impl Env + Files + Print), i: usize) -> io::Result<bool> {
+    let mut name = [0u8; 4096];
+    let Some(n) = argument(rt, i, &mut name) else {
+        return Ok(false);
+    };
+    rt.write_all(&name[..n])?;
+    print!(rt; " ")?;
+    report_file(rt, &name[..n])?;
+    Ok(true)
 }
 
-fn report_arguments() {
-    let count = os::arg_count();
-    let mut left = count;
-    while 1 < left {
-        report_argument(count - left + 1);
-        left -= 1;
+fn report_arguments(rt: &(impl Env + Files + Print)) -> io::Result<()> {
+    for i in 1..usize::MAX {
+        if !report_argument(rt, i)? {
+            break;
+        }
     }
+    Ok(())
 }
 
-fn main() {
-    report_arguments();
+fn main(rt: HostRuntime) -> io::Result<()> {
+    report_arguments(&rt)
 }

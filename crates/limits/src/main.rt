@@ -3,27 +3,21 @@
 
 ghost use Rattle.std.specs.Prelude.{◌≤◌, ◌<◌, length};
 
-use libc::STDOUT_FILENO;
 use open_layout::Checked;
+use std::io;
 
-fn report(sheet: &[u8]) {
+fn report(rt: &impl Print, sheet: &[u8]) -> io::Result<()> {
     match open_layout::check_sheet(sheet) {
-        Checked::Intact(l) => {
-            io::write_all(STDOUT_FILENO, b"intact\n");
-        }
-        Checked::Broken => {
-            io::write_all(STDOUT_FILENO, b"broken\n");
-        }
+        Checked::Intact(_) => println!(rt; "intact"),
+        Checked::Broken => println!(rt; "broken"),
     }
 }
 
 // Blocks of zero bytes have their number as check word. Block 0 has one string of zeros that fills the rest; its check word is given.
 fn number_blocks(bytes: &mut [u8; 2097664]) {
-    let mut k = 1;
-    while k < 4097 {
+    for k in 1..4097 {
         bytes[512 * k + 508] = (k % 256) as u8;
         bytes[512 * k + 509] = (k / 256) as u8;
-        k += 1;
     }
 }
 
@@ -35,20 +29,20 @@ fn put(bytes: &mut [u8; 2097664], at: usize, w: usize)
     bytes[at + 2] = (w / 65536 % 256) as u8;
 }
 
-fn report_front(bytes: &[u8], n: usize)
+fn report_front(rt: &impl Print, bytes: &[u8], n: usize) -> io::Result<()>
     requires { n ≤ length bytes.now }
 {
-    report(&bytes[..n]);
+    report(rt, &bytes[..n])
 }
 
-fn report_array(bytes: &[u8; 2097664], n: usize)
+fn report_array(rt: &impl Print, bytes: &[u8; 2097664], n: usize) -> io::Result<()>
     requires { n ≤ 2097664 }
 {
-    report_front(bytes, n);
+    report_front(rt, bytes, n)
 }
 
 // 4,096 blocks are intact, the like with one block more are not.
-fn report_most() {
+fn report_most(rt: &impl Print) -> io::Result<()> {
     let mut bytes = [0u8; 2097664];
     number_blocks(&mut bytes);
     put(&mut bytes, 0, 1);
@@ -56,15 +50,15 @@ fn report_most() {
     put(&mut bytes, 8, 1);
     put(&mut bytes, 12, 2080720);
     put(&mut bytes, 508, 7342);
-    io::write_all(STDOUT_FILENO, b"4096 blocks ");
-    report_array(&bytes, 2097152);
+    print!(rt; "4096 blocks ")?;
+    report_array(rt, &bytes, 2097152)?;
     put(&mut bytes, 4, 520319);
     put(&mut bytes, 12, 2081228);
     put(&mut bytes, 508, 7953);
-    io::write_all(STDOUT_FILENO, b"4097 blocks ");
-    report_array(&bytes, 2097664);
+    print!(rt; "4097 blocks ")?;
+    report_array(rt, &bytes, 2097664)
 }
 
-fn main() {
-    report_most();
+fn main(rt: HostRuntime) -> io::Result<()> {
+    report_most(&rt)
 }

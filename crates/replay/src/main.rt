@@ -1,9 +1,13 @@
 // Replays stored cases (tests/compare/README.md has their format) by `load`, with slices as long as the case says.
-// The six numbers must be the case's, the table's words its words where it is accepted, and every other word of table and work as `load` leaves it.
-// Prints how many cases were replayed, how many differed, and which.
+// The six numbers must be the case's, the table's words its words where it is accepted, and every other word of table and work
+// as `load` leaves it. Prints how many cases were replayed, how many differed, and which.
+#![tactic(auto)]
+
+use console::{argument, open_file, read_full};
 use error::numbers::{SixNumbers, numbers};
-use libc::STDOUT_FILENO;
 use loader::load;
+use std::io;
+use std::io::Read;
 
 // What stands in table and work before: a word that `load` does not write is known by it.
 const TABLE_BEFORE: u32 = 2779096485;
@@ -33,9 +37,9 @@ fn le(a: u8, b: u8, c: u8, d: u8) -> u32 {
 }
 
 // The first n bytes of buf, from the file; false where there are not as many.
-fn read_part(fd: i32, buf: &mut [u8], n: usize) -> bool {
+fn read_part(file: &mut impl Read, buf: &mut [u8], n: usize) -> bool {
     if n <= buf.len() {
-        return io::read_full(fd, &mut buf[..n]) == n;
+        return read_full(file, &mut buf[..n]) == n;
     }
     false
 }
@@ -91,12 +95,10 @@ fn are_same(a: SixNumbers, b: SixNumbers) -> bool {
 
 // Every word from that place on is x.
 fn is_filled(words: &[u32], from: usize, x: u32) -> bool {
-    let mut end = words.len();
-    while from < end {
-        if words[end - 1] != x {
+    for i in from..words.len() {
+        if words[i] != x {
             return false;
         }
-        end -= 1;
     }
     true
 }
@@ -123,12 +125,10 @@ fn is_stored(words: &[u32], linked: &[u8], i: usize) -> bool {
 
 // The first n words are the stored ones.
 fn are_stored(words: &[u32], linked: &[u8], n: usize) -> bool {
-    let mut left = n;
-    while 0 < left {
-        if !is_stored(words, linked, n - left) {
+    for i in 0..n {
+        if !is_stored(words, linked, i) {
             return false;
         }
-        left -= 1;
     }
     true
 }
@@ -252,20 +252,20 @@ fn is_same_in(sheet: &[u8; 65536], hosts: &[u8; 65536], linked: &[u8; 262144], c
 }
 
 // A case whose lengths are known; its bytes and its table come next.
-fn replay_case(fd: i32, c: Case) -> Replayed {
-    let mut sheet = io::large_buffer();
-    let mut hosts = io::large_buffer();
+fn replay_case(file: &mut impl Read, c: Case) -> Replayed {
+    let mut sheet = [0u8; 65536];
+    let mut hosts = [0u8; 65536];
     let mut linked = [0u8; 262144];
-    if !read_part(fd, &mut sheet, padded(c.sheet)) {
+    if !read_part(file, &mut sheet, padded(c.sheet)) {
         return Replayed::Missing;
     }
-    if !read_part(fd, &mut hosts, padded(c.hosts)) {
+    if !read_part(file, &mut hosts, padded(c.hosts)) {
         return Replayed::Missing;
     }
     if 65536 < c.linked {
         return Replayed::Missing;
     }
-    if !read_part(fd, &mut linked, 4 * c.linked) {
+    if !read_part(file, &mut linked, 4 * c.linked) {
         return Replayed::Missing;
     }
     if is_same_in(&sheet, &hosts, &linked, c) {
@@ -275,68 +275,67 @@ fn replay_case(fd: i32, c: Case) -> Replayed {
     }
 }
 
-fn replay_next(fd: i32) -> Replayed {
+fn replay_next(file: &mut impl Read) -> Replayed {
     let mut head = [0u8; 44];
-    if io::read_full(fd, &mut head) == 44 {
-        return replay_case(fd, read_case(&head));
+    if read_full(file, &mut head) == 44 {
+        return replay_case(file, read_case(&head));
     }
     Replayed::Missing
 }
 
-fn print_line(text: &[u8], n: u64) {
-    io::write_all(STDOUT_FILENO, text);
-    io::print_decimal(STDOUT_FILENO, n);
-    io::write_all(STDOUT_FILENO, b"\n");
-}
-
 // 0 where case i is the same, 1 where it differs, 2 where the file ends.
-fn replay_one(fd: i32, i: u32) -> u32 {
-    match replay_next(fd) {
-        Replayed::Same => 0,
+fn replay_one(rt: &impl Print, file: &mut impl Read, i: u32) -> io::Result<u32> {
+    match replay_next(file) {
+        Replayed::Same => Ok(0),
         Replayed::Different => {
-            print_line(b"different: case ", i as u64);
-            1
+            println!(rt; "different: case {i}")?;
+            Ok(1)
         }
         Replayed::Missing => {
-            print_line(b"missing: case ", i as u64);
-            2
+            println!(rt; "missing: case {i}")?;
+            Ok(2)
         }
     }
 }
 
-fn replay_all(fd: i32, count: u32) {
-    let mut left = count;
+fn replay_all(rt: &impl Print, file: &mut impl Read, count: u32) -> io::Result<()> {
     let mut different: u32 = 0;
-    while 0 < left {
-        let d = replay_one(fd, count - left);
+    for i in 0..count {
+        let d = replay_one(rt, file, i)?;
         if 1 < d {
-            return;
+            return Ok(());
         }
         different += d;
-        left -= 1;
     }
-    print_line(b"cases ", count as u64);
-    print_line(b"different ", different as u64);
+    println!(rt; "cases {count}")?;
+    println!(rt; "different {different}")
 }
 
 // The file begins with its format, 1, and the count of cases.
-fn replay_file(fd: i32) {
+fn replay_file(rt: &impl Print, file: &mut impl Read) -> io::Result<()> {
     let mut head = [0u8; 8];
-    if io::read_full(fd, &mut head) == 8 {
+    if read_full(file, &mut head) == 8 {
         if le(head[0], head[1], head[2], head[3]) == 1 {
-            replay_all(fd, le(head[4], head[5], head[6], head[7]));
+            return replay_all(rt, file, le(head[4], head[5], head[6], head[7]));
+        }
+    }
+    Ok(())
+}
+
+fn replay_named(rt: HostRuntime, name: &[u8]) -> io::Result<()> {
+    match open_file(&rt, name) {
+        Ok(mut file) => replay_file(&rt, &mut file),
+        Err(e) => {
+            rt.stderr().write_all(name)?;
+            eprintln!(rt; ": {e}")
         }
     }
 }
 
-fn main() {
-    let mut name = io::buffer();
-    let n = os::arg(1, &mut name);
-    let fd = os::open_read(&name[..n]);
-    if fd < 0 {
-        os::fail(&name[..n]);
-        return;
+fn main(rt: HostRuntime) -> io::Result<()> {
+    let mut name = [0u8; 4096];
+    match argument(&rt, 1, &mut name) {
+        Some(n) => replay_named(rt, &name[..n]),
+        None => replay_named(rt, b""),
     }
-    replay_file(fd);
-    libc::close(fd);
 }
