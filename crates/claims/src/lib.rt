@@ -1,4 +1,6 @@
 // What is claimed of the calls is what their contracts say: each call of load is `Loads`, each family query is `Asks`, and so on.
+#![tactic(auto)]
+
 ghost use Rattle.calls.specs.Calls.{Loads, LoadsNumbers, Asks, AsksLength};
 ghost use Rattle.family_calls.specs.FamilyCalls.{AsksSize, AsksSizeNumbers, CountsStructs, CountsNumbers};
 ghost use Rattle.family_calls.specs.LengthCalls.{AsksLengthNumbers};

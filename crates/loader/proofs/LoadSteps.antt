@@ -20,13 +20,11 @@ use Rattle.open_layout.specs.Layout.{layout, checked_of}
 use Rattle.open_layout.specs.LayoutLaws.{Located}
 use Rattle.open_layout.specs.Opened.{module_in}
 use Rattle.sheet.specs.Editions.{most_of}
-use Rattle.open_sheet.specs.declared.Opened.{Opened}
 use Rattle.table.specs.TableLaws.{table_few}
 use Rattle.load.specs.Load as load
 use Rattle.load.specs.Load.{refused, opened, opening, answer, load, table_then, table_after, work_then, work_after}
 use Rattle.load.specs.LoadLaws.{opening_inv, linked_fits}
 use Rattle.open_inputs.specs.declared.Inputs.{Inputs}
-use Rattle.open_inputs.specs.declared.Inputs.TheVariants as Inputs
 use Rattle.open_inputs.specs.Inputs.{inputs_of}
 use Rattle.open_inputs.specs.Indexed.{IndexedIf}
 use Rattle.open_inputs.specs.InputsLaws.{Admitted, inputs_refused, inputs_intact}

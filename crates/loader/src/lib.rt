@@ -1,4 +1,6 @@
 // Loading and linking: the call.
+#![tactic(auto)]
+
 ghost use Rattle.std.specs.Prelude.{◌≡◌, ◌≤◌, ◌<◌, length, get_or};
 ghost use Rattle.blocks.specs.Blocks.{words};
 ghost use Rattle.open_hosts.specs.Sorted.{Roomy};

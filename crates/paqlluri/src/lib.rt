@@ -1,4 +1,6 @@
 // The calls for C and Rust, which paqlluri_c exports: an answer of several numbers goes into lent words.
+#![tactic(auto)]
+
 ghost use Rattle.std.specs.Prelude.{◌≡◌, length};
 ghost use Rattle.error.specs.Answer.{numbers};
 ghost use Rattle.load.specs.Load.{load, table_after, work_after};

@@ -1,16 +1,16 @@
 -- The report on a sheet: what a refused one and an accepted one are told to be.
-use Prim.Native.Nat.{ℕ, ◌+◌, ◌*◌, ◌≤◌, ◌<◌}
+use Prim.Native.Nat.{ℕ, ◌+◌, ◌*◌, ◌≤◌}
 use mathlib.Core.Path.{◌≡◌, refl, sym, ap, ap₂, ◌∙◌, subst, fun_ext}
 use mathlib.Core.List.{List, [], ◌∷◌, ◌++◌}
-use mathlib.Core.Bool.{Bool, true, false, cond, ◌&&◌}
-use mathlib.Core.Option.{Option, some}
+use mathlib.Core.Bool.{Bool, true, false, cond}
+use mathlib.Core.Option.{Option}
 use native.Mathlib.Omega.{arith}
-use lib.Dec.{T, ltb}
+use lib.Dec.{ltb}
 use lib.ListN.{length, take, drop}
 use lib.Seq.{take-length, take-append_seam, drop-append_seam}
-use borrow.Author.Tests.{leb-true, lt-ltb, le-ltb}
+use borrow.Author.Tests.{leb-true, lt-ltb}
 use Rattle.lists.specs.Lists.{concat_map, from, keep, places_from, sum}
-use Rattle.lists.specs.ListLaws.{and_first, and_second, length_concat_map, T_true, T_of}
+use Rattle.lists.specs.ListLaws.{and_first, length_concat_map, T_of}
 use Rattle.law_counting.specs.Counting.{sum_ext}
 use Rattle.law_counting.specs.Kept.{places_kept, kept_past, kept_places, concat_map_keep, sum_keep}
 use Rattle.blocks.specs.Blocks.{words, length_word}
@@ -18,7 +18,6 @@ use Rattle.error.specs.declared.LoadError.{LoadError}
 use Rattle.error.specs.declared.Loaded.{Loaded}
 use Rattle.error.specs.declared.Loaded.TheVariants.{Accepted, Refused}
 use Rattle.sheet.specs.Module.{Module, TypeDef, no_module, coroutine, type_at, is_struct}
-use Rattle.sheet.specs.Decode.{decode}
 use Rattle.sheet.specs.DecodedLaws.{decoded_within}
 use Rattle.sheet.specs.TypeLaws.{struct_known}
 use Rattle.sheet.specs.Editions.{most_of}
@@ -30,7 +29,6 @@ use Rattle.load.specs.KindLaws.{Links, accepted}
 use Rattle.families.specs.Families.{family_size, struct_count, struct_numbers}
 use Rattle.families.specs.Counted.{counted_of, structs_in}
 use Rattle.law_families.specs.FamilyLaws.{size_some, size_none}
-use Rattle.report_lines.specs.declared.SheetReport.{SheetReport}
 use Rattle.report_lines.specs.Report.{judged, module_or, counting, counted_module, family_line, structs_total, sizes_total}
 use Rattle.report_lines.specs.Reported.{Reports}
 use Rattle.report_lines.specs.ReportLaws.{refused_none}

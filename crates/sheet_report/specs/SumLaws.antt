@@ -1,5 +1,5 @@
 -- Totals over reports are totals over sheets.
-use Rattle.std.specs.Prelude.{ℕ, ◌+◌, ◌≤◌, ◌≡◌, List}
+use Rattle.std.specs.Prelude.{ℕ, ◌+◌, ◌≤◌, List}
 use Rattle.std.proofs.Common.{ap, ◌∙◌, arith}
 use Rattle.exact.specs.Adding.{Spare}
 use Rattle.exact.specs.declared.Total.{Total}

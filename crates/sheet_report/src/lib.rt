@@ -1,4 +1,6 @@
 // The report on one sheet, and the totals over many.
+#![tactic(auto)]
+
 ghost use Rattle.std.specs.Prelude.{◌≡◌, [], ◌∷◌, ◌+◌, ◌≤◌, ◌<◌, length};
 ghost use Rattle.families.specs.Counted.{structs_in};
 ghost use Rattle.report_lines.specs.Reported.{Reports, total_numbers};
