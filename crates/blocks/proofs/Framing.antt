@@ -17,7 +17,7 @@ use Rattle.blocks.specs.Blocks.{block_bytes, checked, block_count, blocks, all_c
 use Rattle.blocks.specs.Blocks.{framed}
 use Rattle.blocks.specs.Frame.{frame_of, block_checked, zero_from}
 use Rattle.blocks.specs.WordLaws.{length_words}
-use Rattle.blocks.specs.FramedLaws.{Intact, edition_range, framed_intact, intact_framed}
+use Rattle.blocks.proofs.FramedLaws.{Intact, edition_range, framed_intact, intact_framed}
 
 -- ── every block ──
 

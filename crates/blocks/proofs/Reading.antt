@@ -15,7 +15,7 @@ use Rattle.lists.specs.ListLaws.{drop_take}
 use Rattle.blocks.specs.Blocks.{block_bytes, checked_bytes, number, weighed, check_word, checked, block_count, words}
 use Rattle.blocks.specs.Frame.{block_checked}
 use Rattle.blocks.specs.WordLaws.{length_words, number_four, byte_of, word_at, word_bytes_at}
-use Rattle.blocks.specs.ByteAccessLaws.{weighed_step}
+use Rattle.blocks.proofs.ByteAccessLaws.{weighed_step}
 
 -- ── a word ──
 

@@ -1,9 +1,4 @@
 pub mod Calls
-pub mod CallLaws
 pub mod EditionCalls
-pub mod EditionCallLaws
 pub mod ExportCalls
-pub mod ExportCallLaws
 pub mod ArgumentCalls
-pub mod ArgumentCallLaws
-pub mod Cheap

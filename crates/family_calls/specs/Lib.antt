@@ -1,9 +1,3 @@
 pub mod FamilyCalls
-pub mod FamilyCallLaws
 pub mod NearestCalls
-pub mod NearestCallLaws
 pub mod LengthCalls
-pub mod LengthCallLaws
-pub mod Sample
-pub mod NearestSample
-pub mod LengthSample

@@ -11,7 +11,7 @@ use Rattle.lists.specs.Lists.{keep}
 use Rattle.law_counting.specs.Counting.{tick}
 use Rattle.blocks.specs.Blocks.{words}
 use Rattle.blocks.specs.Frame.{first_words}
-use Rattle.blocks.specs.FirstWords.{length_first_words, first_words_at}
+use Rattle.blocks.proofs.FirstWords.{length_first_words, first_words_at}
 use Rattle.reader.specs.declared.Step.{Step}
 use Rattle.reader.specs.declared.Step.TheVariants as step
 use Rattle.reader.specs.Reader.{Got, broken, got, and_then, word, many, list_of}
@@ -25,7 +25,7 @@ use Rattle.sheet_reader.specs.TakenLaws.{word_taken, none_taken}
 use Rattle.sheet.specs.Module.{TypeDef, kind_word, is_struct}
 use Rattle.sheet.specs.Decode.{type_def}
 use Rattle.sheet.specs.Encode.{encode_type}
-use Rattle.sheet.specs.TypeCodes.{type_codes}
+use Rattle.sheet.proofs.TypeCodes.{type_codes}
 use Rattle.open_layout.specs.declared.Layout.{Layout}
 use Rattle.open_layout.specs.declared.Checked.{Checked}
 use Rattle.open_layout.specs.Layout.{layout, checked_of}

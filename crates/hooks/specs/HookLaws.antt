@@ -7,12 +7,12 @@ use Rattle.lists.specs.ListLaws.{and_first}
 use Rattle.blocks.specs.Blocks.{words}
 use Rattle.blocks.specs.Frame.{first_words}
 use Rattle.reader.specs.Reader.{got}
-use Rattle.reader.specs.SizeLaws.{word_within, word_held, first_held}
+use Rattle.reader.proofs.SizeLaws.{word_within, word_held, first_held}
 use Rattle.sheet.specs.Module.{Hook}
 use Rattle.sheet.specs.Decode.{hook_of}
 use Rattle.sheet.specs.Encode.{encode_hook}
 use Rattle.sheet.specs.Coded.{coded_hook}
-use Rattle.sheet.specs.ModuleCodes.{hook_codes}
+use Rattle.sheet.proofs.ModuleCodes.{hook_codes}
 
 module _ (b : List ℕ) (n at : ℕ) {a : Hook} {q : ℕ} (e : hook_of (first_words b n) at ≡ got a q) where
   pub hook_end : q ≡ at + 3

@@ -6,7 +6,7 @@ use native.Mathlib.Omega.{arith}
 use lib.ListN.{get_or}
 use Rattle.blocks.specs.Blocks.{words}
 use Rattle.blocks.specs.Frame.{first_words}
-use Rattle.blocks.specs.FirstWords.{length_first_words, first_words_at}
+use Rattle.blocks.proofs.FirstWords.{length_first_words, first_words_at}
 use Rattle.reader.specs.declared.Step.TheVariants.{Next}
 use Rattle.reader.specs.Reader.{got}
 use Rattle.reader.specs.Text.{string}

@@ -5,9 +5,9 @@ use Rattle.std.proofs.Common.{sym, ap, ap₂, ◌∙◌, arith}
 use Rattle.std.proofs.Math.Option.{Option, none, some}
 use Rattle.blocks.specs.Blocks.{words, length_word, framed}
 use Rattle.blocks.specs.Frame.{first_words}
-use Rattle.blocks.specs.FirstWords.{framed_length, first_words_framed}
+use Rattle.blocks.proofs.FirstWords.{framed_length, first_words_framed}
 use Rattle.reader.specs.Reader.{got, list_of, content}
-use Rattle.reader.specs.ReadLaws.{content_inv}
+use Rattle.reader.proofs.ReadLaws.{content_inv}
 use Rattle.reader.specs.Value.{Whole}
 use Rattle.reader.specs.ValueLaws.{got_whole, value_got}
 use Rattle.host.specs.declared.Listed.{Listed}

@@ -8,7 +8,7 @@ use Rattle.std.proofs.Math.Decide.{dec_lt}
 use Rattle.std.proofs.Math.Dec.{eqb, leb, ltb}
 use Rattle.std.proofs.Math.ListN.{get_or, length-append}
 use Rattle.lists.specs.ListLaws.{T_of, both, and_false}
-use Rattle.table.specs.TableLaws.{span_at, span_section_length}
+use Rattle.table.proofs.TableLaws.{span_at, span_section_length}
 use Rattle.reader.specs.Reader.{encode_list}
 use Rattle.sheet.specs.Module.{Module, type_at, is_struct}
 use Rattle.host.specs.Host.{HostFn}
@@ -19,9 +19,9 @@ use Rattle.table.specs.Records.{type_record, func_record, import_record}
 use Rattle.table.specs.Table.{table_edition, header_words, hook_section, canon_section, global_section, reference_section, span_section, sections, joined, table_words}
 use Rattle.descends.specs.Descends.{not_linked, table_length, spans_start, span_count, spans_end, is_linked}
 use Rattle.descends.specs.Descends.{pre_in, post_in, length_in, if_known, is_within, descends}
-use Rattle.descends.specs.DescendsLaws.{known_is, unknown_is}
+use Rattle.descends.proofs.DescendsLaws.{known_is, unknown_is}
 use Rattle.sheet.specs.TypeLaws.{struct_known}
-use Rattle.law_forest.specs.Accepted.{span_fits}
+use Rattle.law_forest.proofs.AcceptedLaws.{span_fits}
 use Rattle.law_linked.specs.Sections.{body_of, body_last, table_length_lem, joined_length, start_word, section_word}
 
 -- ── tests ──

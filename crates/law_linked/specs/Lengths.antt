@@ -6,7 +6,7 @@ use Rattle.sheet.specs.Module.{Module}
 use Rattle.host.specs.Host.{HostFn}
 use Rattle.table.specs.Table.{table_words}
 use Rattle.descends.specs.Descends.{length_in, if_known}
-use Rattle.descends.specs.DescendsLaws.{known_is}
+use Rattle.descends.proofs.DescendsLaws.{known_is}
 use Rattle.descends.specs.declared.ChainLength.TheVariants.{Length, NotLinked}
 use Rattle.descends.specs.Lengths.{chain_length_in}
 use Rattle.families.specs.Families.{family_depth}

@@ -17,7 +17,7 @@ use Rattle.descends.specs.Nearest.{holds_both, is_narrower, nearest_of, family_o
 use Rattle.families.specs.Families.{is_from, common_families, nearest}
 use Rattle.law_counting.specs.BestLaws.{Ranks, by_least}
 use Rattle.law_forest.specs.Once.{ChainRule}
-use Rattle.law_forest.specs.Accepted.{chain_rule}
+use Rattle.law_forest.proofs.AcceptedLaws.{chain_rule}
 use Rattle.law_families.specs.FamilyLaws.{from_reaches, from_spans, size_smaller}
 use Rattle.law_families.specs.NearestLaws.{nearest_by}
 use Rattle.law_linked.specs.Answers.{if_linked, span_count_lem, within}

@@ -13,7 +13,7 @@ use Rattle.descends.specs.declared.FamilySize.TheVariants.{Size, NotLinked}
 use Rattle.descends.specs.Sizes.{width_in, size_in}
 use Rattle.families.specs.Families.{is_from, family_size}
 use Rattle.law_forest.specs.Once.{ChainRule}
-use Rattle.law_forest.specs.Accepted.{chain_rule}
+use Rattle.law_forest.proofs.AcceptedLaws.{chain_rule}
 use Rattle.law_families.specs.FamilyLaws.{from_spans, size_span, size_none}
 use Rattle.law_linked.specs.Answers.{if_linked, answered, known_value, struct_pre, struct_post, other_post}
 

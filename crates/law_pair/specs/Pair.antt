@@ -17,7 +17,7 @@ use Rattle.load.specs.Load.{load, table_after, work_after}
 use Rattle.renumber.specs.Renumber.{image, renumber, RenumberedSheet}
 use Rattle.law_everything.specs.Everything.{everything}
 use Rattle.calls.specs.Calls.{Loads, Asks, NotShort, Begins, AgreeAsked, NumberingFree}
-use Rattle.calls.specs.CallLaws.{numbering_free}
+use Rattle.calls.proofs.CallLaws.{numbering_free}
 
 -- ── two sheets ──
 

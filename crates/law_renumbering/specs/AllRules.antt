@@ -13,7 +13,7 @@ use Rattle.funcs.specs.Funcs.{funcs_faults}
 use Rattle.code.specs.Code.{codes_faults}
 use Rattle.hooks.specs.Hooks.{hooks_faults, start_faults, exports_faults}
 use Rattle.load.specs.Load.{module_faults}
-use Rattle.law_forest.specs.Accepted.{walk_complete}
+use Rattle.law_forest.proofs.AcceptedLaws.{walk_complete}
 use Rattle.sheet.specs.DecodedLaws.{Coded}
 use Rattle.renumber.specs.Renumber.{renumber}
 use Rattle.law_renumbering.specs.Bijection.{Listed}

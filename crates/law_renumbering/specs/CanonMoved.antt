@@ -7,7 +7,7 @@ use Rattle.lists.specs.ListLaws.{and_first, and_second, all_from}
 use Rattle.law_counting.specs.Counting.{bool_ext, eqb_of}
 use Rattle.sheet.specs.Module.{ValueType, basic, ref, value_word, TypeDef, coroutine, is_struct, type_at}
 use Rattle.canon.specs.Canon.{canon_type, canon_value, canon_word}
-use Rattle.canon.specs.CanonLaws.{Alike, canon_alike}
+use Rattle.canon.proofs.CanonLaws.{Alike, canon_alike}
 use Rattle.sheet.specs.TypeLaws.{good_at}
 use Rattle.sheet.specs.Coded.{coded_value, coded_type}
 use Rattle.renumber.specs.Renumber.{value_image, type_image}

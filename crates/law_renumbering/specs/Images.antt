@@ -14,7 +14,7 @@ use Rattle.sheet.specs.Module.{ValueType, basic, ref, first_ref, value_word, is_
 use Rattle.sheet.specs.Encode.{encode_field, encode_value}
 use Rattle.sheet.specs.Decode.{basic_types}
 use Rattle.canon.specs.Canon.{same_type}
-use Rattle.canon.specs.CanonLaws.{same_type_lem, type_same}
+use Rattle.canon.proofs.CanonLaws.{same_type_lem, type_same}
 use Rattle.parents.specs.Forest.{Entry, other, root, sub, struct_entry, entry_of, entry}
 use Rattle.sheet.specs.Coded.{coded_value, coded_field, coded_type}
 use Rattle.renumber.specs.Renumber.{image_plus, value_image, field_image, struct_image, sig_image, type_image}

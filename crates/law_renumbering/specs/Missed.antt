@@ -14,7 +14,7 @@ use Rattle.host.specs.Host.{HostFn}
 use Rattle.types.specs.Types.{types_faults}
 use Rattle.sheet.specs.Editions.{most_of}
 use Rattle.parents.specs.Parents.{parents_faults}
-use Rattle.sheet.specs.EditionLaws.{most_from_one}
+use Rattle.sheet.proofs.EditionLaws.{most_from_one}
 use Rattle.spans.specs.Spans.{walk_faults}
 use Rattle.consts.specs.Consts.{most_deep, consts_faults}
 use Rattle.imports.specs.Imports.{imports_faults, globals_faults}
@@ -24,9 +24,9 @@ use Rattle.hooks.specs.Hooks.{hooks_faults, start_faults, exports_faults}
 use Rattle.load.specs.Load.{module_faults, answer, load}
 use Rattle.load.specs.Kinds.{kind_number, judged, of_names, of_exports}
 use Rattle.load.specs.CodeKinds.{codes_kinds}
-use Rattle.load.specs.RuleKinds.{types_kinds, parents_kinds, consts_kinds, imports_kinds, globals_kinds, funcs_kinds, hooks_kinds, start_kinds, exports_kinds}
-use Rattle.load.specs.KindLaws.{early, first_passes, refused_cases}
-use Rattle.law_forest.specs.Accepted.{walk_complete}
+use Rattle.load.proofs.RuleKinds.{types_kinds, parents_kinds, consts_kinds, imports_kinds, globals_kinds, funcs_kinds, hooks_kinds, start_kinds, exports_kinds}
+use Rattle.load.proofs.KindLaws.{early, first_passes, refused_cases}
+use Rattle.law_forest.proofs.AcceptedLaws.{walk_complete}
 
 -- the first fault, if there is one, is of kind 2 to 22, 27 or 28
 record Leads (es : List LoadError) : Type 0 where

@@ -14,14 +14,15 @@ use Rattle.blocks.specs.Blocks.{most_blocks, is_edition, blocks_for, titled}
 use Rattle.blocks.specs.ByteLaws.{is_byte, is_word}
 use Rattle.reader.specs.Reader.{encode_list}
 use Rattle.reader.specs.Text.{encode_string}
-use Rattle.reader.specs.FrameLaws.{framable}
+use Rattle.reader.proofs.FrameLaws.{framable}
 use Rattle.sheet.specs.Module.{TypeDef, coroutine, Module, type_at}
 use Rattle.sheet.specs.Editions.{newest_edition}
 use Rattle.sheet.specs.Decode.{decode}
 use Rattle.sheet.specs.Encode.{encode_type, encode_const, encode_import, encode_global, encode_func, encode_hook, encode_export, encode, sheet_of}
 use Rattle.sheet.specs.Coded.{coded_type, coded_global, coded_func, coded_export, coded_module}
-use Rattle.sheet.specs.SheetLaws.{well_coded, well_framable, decode_coded, decode_sheet}
-use Rattle.sheet.specs.DecodedLaws.{most_words, decoded, decoded_few}
+use Rattle.sheet.proofs.SheetLaws.{well_coded, well_framable, decode_coded, decode_sheet}
+use Rattle.sheet.specs.DecodedLaws.{most_words}
+use Rattle.sheet.proofs.DecodedTheorems.{decoded, decoded_few}
 use Rattle.renumber.specs.Renumber.{is_renumbering, image, type_image, import_image, global_image, func_image, export_image, renumber}
 use Rattle.law_renumbering.specs.Bijection.{Listed, listed}
 use Rattle.law_renumbering.specs.Images.{good_value, good_values, good_type}

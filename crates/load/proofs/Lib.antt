@@ -1,1 +1,5 @@
 pub mod Room
+pub mod KindLaws
+pub mod LoadLaws
+pub mod RuleKinds
+pub mod SliceLaws

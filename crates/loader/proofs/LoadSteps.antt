@@ -12,7 +12,7 @@ use Rattle.error.specs.declared.LoadErrorKind.{LoadErrorKind}
 use Rattle.error.specs.declared.Loaded.{Loaded}
 use Rattle.error.specs.declared.Loaded.TheVariants.{Refused}
 use Rattle.error.specs.Answer.{in_module}
-use Rattle.sheet.specs.SheetLaws.{decode_length}
+use Rattle.sheet.proofs.SheetLaws.{decode_length}
 use Rattle.host.specs.Listed.{listed_of, hosts_in}
 use Rattle.open_hosts.specs.Sorted.{SortedHosts}
 use Rattle.open_layout.specs.declared.Layout.{Layout}
@@ -20,10 +20,10 @@ use Rattle.open_layout.specs.Layout.{layout, checked_of}
 use Rattle.open_layout.specs.LayoutLaws.{Located}
 use Rattle.open_layout.specs.Opened.{module_in}
 use Rattle.sheet.specs.Editions.{most_of}
-use Rattle.table.specs.TableLaws.{table_few}
+use Rattle.table.proofs.TableLaws.{table_few}
 use Rattle.load.specs.Load as load
 use Rattle.load.specs.Load.{refused, opened, opening, answer, load, table_then, table_after, work_then, work_after}
-use Rattle.load.specs.LoadLaws.{opening_inv, linked_fits}
+use Rattle.load.proofs.LoadLaws.{opening_inv, linked_fits}
 use Rattle.open_inputs.specs.declared.Inputs.{Inputs}
 use Rattle.open_inputs.specs.Inputs.{inputs_of}
 use Rattle.open_inputs.specs.Indexed.{IndexedIf}

@@ -5,7 +5,7 @@ use Rattle.std.proofs.Math.Decide.{dec_lt, ℕ_discrete}
 use Rattle.sorting.specs.Items.{item}
 use Rattle.sorting.specs.Merge.{Place}
 use Rattle.sorting.specs.Contract.{Edges, Ready, Ordered, SortOut}
-use Rattle.sorting.specs.Edges.{ready_kept}
+use Rattle.sorting.proofs.Edges.{ready_kept}
 use Rattle.open_canon.specs.Numbers.{items, canonical, own_by}
 use Rattle.region.specs.Region.{Off, Apart, Frame, part, word_at}
 use Rattle.region.specs.RegionLaws.{frame_refl, frame_then, frame_set, part_is, part_kept}

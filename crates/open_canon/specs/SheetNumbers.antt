@@ -15,12 +15,12 @@ use Rattle.reader.specs.Reader.{Reader}
 use Rattle.reader.specs.Text.{string, encode_string}
 use Rattle.reader.specs.TextLaws.{string_codes, string_same}
 use Rattle.reader.specs.ReaderLaws.{Stands, Codes, list_codes}
-use Rattle.reader.specs.ReadLaws.{read_inside, stands_slice}
+use Rattle.reader.proofs.ReadLaws.{read_inside, stands_slice}
 use Rattle.sheet.specs.Module.{coroutine, type_at, is_struct, Module}
 use Rattle.sheet.specs.Decode.{type_def}
 use Rattle.sheet.specs.Encode.{encode_type}
 use Rattle.sheet.specs.Coded.{coded_type}
-use Rattle.sheet.specs.TypeCodes.{type_codes}
+use Rattle.sheet.proofs.TypeCodes.{type_codes}
 use Rattle.open_layout.specs.LayoutLaws.{Located}
 use Rattle.open_layout.specs.declared.Layout.{Layout}
 use Rattle.open_index.specs.declared.Part.TheVariants.{Strings, Types}

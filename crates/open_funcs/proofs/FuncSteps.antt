@@ -12,7 +12,7 @@ use Rattle.reader.specs.Reader.{Got, and_then, word, many, list_of}
 use Rattle.reader.specs.Step.{step_of}
 use Rattle.reader.specs.StepLaws.{word_read, word_none, arrived, stuck, make}
 use Rattle.reader.specs.AlikeLaws.{two_on, ends_alike, then_alike, into_alike}
-use Rattle.reader.specs.RecordSteps.{sized_word, sized_list}
+use Rattle.reader.proofs.RecordSteps.{sized_word, sized_list}
 use Rattle.sheet_reader.specs.declared.Taken.{Taken}
 use Rattle.sheet_reader.specs.declared.Taken.TheVariants.{Word}
 use Rattle.sheet_reader.specs.declared.Taken.TheVariants as taken
@@ -20,7 +20,7 @@ use Rattle.sheet_reader.specs.Taken.{taken_of}
 use Rattle.sheet_reader.specs.TakenLaws.{word_taken, none_taken}
 use Rattle.sheet.specs.Module.{opcode}
 use Rattle.sheet.specs.Decode.{value_type, param_list, arg_of, handler_of, switch_of, known_code, inst_of, function_of}
-use Rattle.sheet.specs.SizeLaws.{handler_sized, shapes_alike}
+use Rattle.sheet.proofs.SizeLaws.{handler_sized, shapes_alike}
 use Rattle.open_funcs.specs.Halves.{frame_half, body_of, code_half}
 
 -- ── jump tables ──

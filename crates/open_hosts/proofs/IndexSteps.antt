@@ -13,10 +13,10 @@ use Rattle.lists.specs.Lists.{all_of, concat_map}
 use Rattle.blocks.specs.Blocks.{words}
 use Rattle.blocks.specs.ByteLaws.{is_byte, is_word}
 use Rattle.blocks.specs.Frame.{first_words}
-use Rattle.blocks.specs.FirstWords.{length_first_words, first_words_at, first_words_small}
+use Rattle.blocks.proofs.FirstWords.{length_first_words, first_words_at, first_words_small}
 use Rattle.reader.specs.declared.Step.TheVariants.{Next}
 use Rattle.reader.specs.Reader.{got, list_of}
-use Rattle.reader.specs.ReadLaws.{listed_at, read_inside}
+use Rattle.reader.proofs.ReadLaws.{listed_at, read_inside}
 use Rattle.reader.specs.Step.{step_of}
 use Rattle.reader.specs.Value.{Whole}
 use Rattle.reader.specs.ValueLaws.{whole_inv, got_whole, value_got, list_within}

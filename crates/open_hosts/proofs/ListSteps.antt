@@ -11,7 +11,7 @@ use Rattle.lists.specs.Lists.{all_of}
 use Rattle.blocks.specs.Blocks.{words, length_word, framed}
 use Rattle.blocks.specs.ByteLaws.{is_byte}
 use Rattle.blocks.specs.Frame.{frame_of, first_words}
-use Rattle.blocks.specs.FirstWords.{length_first_words, first_words_at, first_words_small, first_words_framed, frame_found, frame_none}
+use Rattle.blocks.proofs.FirstWords.{length_first_words, first_words_at, first_words_small, first_words_framed, frame_found, frame_none}
 use Rattle.blocks.specs.declared.Frame.{Frame}
 use Rattle.blocks.specs.declared.Frame.TheVariants.{Words}
 use Rattle.blocks.specs.declared.Frame.TheVariants as frame

@@ -10,7 +10,7 @@ use Rattle.blocks.specs.ByteLaws.{is_word}
 use Rattle.utf8.specs.Utf8.{well_formed}
 use Rattle.reader.specs.Reader.{got, word, many, list_of}
 use Rattle.reader.specs.ReaderLaws.{Stands, then_inv, many_found}
-use Rattle.reader.specs.ReadLaws.{read_inside, stands_slice, many_fit}
+use Rattle.reader.proofs.ReadLaws.{read_inside, stands_slice, many_fit}
 use Rattle.reader.specs.Text.{encode_string}
 use Rattle.reader.specs.Value.{Whole}
 use Rattle.reader.specs.ValueLaws.{whole_inv, got_whole, value_got}

@@ -10,12 +10,12 @@ use Rattle.lists.specs.ListLaws.{and_first}
 use Rattle.blocks.specs.Blocks.{bytes_of}
 use Rattle.blocks.specs.ByteLaws.{is_byte}
 use Rattle.blocks.specs.Frame.{first_words}
-use Rattle.blocks.specs.FirstWords.{first_words_small}
+use Rattle.blocks.proofs.FirstWords.{first_words_small}
 use Rattle.utf8.specs.Utf8.{well_formed}
 use Rattle.reader.specs.declared.Step.TheVariants.{Next}
 use Rattle.reader.specs.Reader.{got, pure, word, many}
 use Rattle.reader.specs.ReaderLaws.{then_inv, chosen}
-use Rattle.reader.specs.ReadLaws.{read_inside, stands_slice}
+use Rattle.reader.proofs.ReadLaws.{read_inside, stands_slice}
 use Rattle.reader.specs.Step.{step_of}
 use Rattle.reader.specs.Text.{words_for, good_text, string, encode_string}
 use Rattle.reader.specs.TextLaws.{string_codes}

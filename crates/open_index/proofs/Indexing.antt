@@ -11,7 +11,7 @@ use Rattle.blocks.specs.Blocks.{words}
 use Rattle.blocks.specs.Frame.{first_words}
 use Rattle.lists.specs.Lists.{all_of}
 use Rattle.blocks.specs.ByteLaws.{is_byte, is_word}
-use Rattle.blocks.specs.FirstWords.{length_first_words, first_words_small}
+use Rattle.blocks.proofs.FirstWords.{length_first_words, first_words_small}
 use Rattle.reader.specs.declared.Step.{Step}
 use Rattle.reader.specs.declared.Step.TheVariants.{Next, Broken}
 use Rattle.reader.specs.Reader.{got, many, list_of}
@@ -21,7 +21,7 @@ use Rattle.reader.specs.StepLaws.{arrived, stuck, word_read}
 use Rattle.open_index.specs.declared.Part.{Part}
 use Rattle.reader.specs.Value.{Whole}
 use Rattle.reader.specs.ValueLaws.{whole_inv, list_within}
-use Rattle.reader.specs.SizeLaws.{many_length}
+use Rattle.reader.proofs.SizeLaws.{many_length}
 use Rattle.open_index.specs.Index.{member_of, edges_of}
 use Rattle.open_index.specs.IndexLaws.{edges_got}
 use Rattle.open_index.proofs.Members.{member_is, member_inside, drop_next, get_d_here}

@@ -16,14 +16,14 @@ use Rattle.utf8.specs.Utf8.{well_formed}
 use Rattle.reader.specs.Text.{string, encode_string}
 use Rattle.reader.specs.TextLaws.{string_codes}
 use Rattle.reader.specs.ReaderLaws.{Codes, free, then_inv}
-use Rattle.reader.specs.ReadLaws.{read_inside}
+use Rattle.reader.proofs.ReadLaws.{read_inside}
 use Rattle.reader.specs.Step.{step_of}
 use Rattle.reader.specs.StepLaws.{make, word_none}
 use Rattle.sheet.specs.Decode.{type_def, const_of, import_of, function_of}
 use Rattle.sheet.specs.Encode.{encode_type, encode_const, encode_import, encode_func}
 use Rattle.sheet.specs.Coded.{coded_type, coded_func}
-use Rattle.sheet.specs.TypeCodes.{type_codes, const_codes}
-use Rattle.sheet.specs.FuncCodes.{import_codes, function_codes}
+use Rattle.sheet.proofs.TypeCodes.{type_codes, const_codes}
+use Rattle.sheet.proofs.FuncCodes.{import_codes, function_codes}
 use Rattle.open_layout.specs.Layout.{pos_of}
 use Rattle.open_index.specs.declared.Part.{Part}
 use Rattle.open_index.specs.declared.Part.TheVariants.{Strings, Types, Consts, Imports, Funcs}

@@ -7,11 +7,11 @@ use mathlib.Core.List.{List, [], ◌∷◌, ◌++◌}
 use Rattle.std.proofs.Math.ListN.{length-append}
 use Rattle.reader.specs.Reader.{Got, got, Reader, and_then, word, many, list_of}
 use Rattle.reader.specs.ReaderLaws.{stands_in, Codes, then_inv, seq, word_codes}
-use Rattle.reader.specs.ReadLaws.{many_fit}
+use Rattle.reader.proofs.ReadLaws.{many_fit}
 use Rattle.open_layout.specs.Layout.{pos_of}
 use Rattle.reader.specs.Value.{Whole}
 use Rattle.reader.specs.ValueLaws.{got_whole}
-use Rattle.reader.specs.SizeLaws.{many_length}
+use Rattle.reader.proofs.SizeLaws.{many_length}
 use Rattle.open_index.specs.Index.{edges}
 
 -- ── positions of any list ──

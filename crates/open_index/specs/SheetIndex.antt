@@ -11,14 +11,14 @@ use Rattle.blocks.specs.Blocks.{framed}
 use Rattle.blocks.specs.ByteLaws.{is_word}
 use Rattle.blocks.specs.Frame.{first_words, frame_of}
 use Rattle.blocks.specs.declared.Frame.TheVariants.{Words}
-use Rattle.blocks.specs.FirstWords.{first_words_framed, frame_few}
+use Rattle.blocks.proofs.FirstWords.{first_words_framed, frame_few}
 use Rattle.utf8.specs.Utf8.{well_formed}
 use Rattle.reader.specs.declared.Step.TheVariants.{Next}
 use Rattle.reader.specs.Reader.{got}
 use Rattle.reader.specs.Text.{string, encode_string}
 use Rattle.reader.specs.TextLaws.{string_codes}
 use Rattle.reader.specs.ReaderLaws.{free, word_codes}
-use Rattle.reader.specs.ReadLaws.{content_inv, content_is}
+use Rattle.reader.proofs.ReadLaws.{content_inv, content_is}
 use Rattle.reader.specs.Step.{step_of}
 use Rattle.reader.specs.StepLaws.{arrived}
 use Rattle.reader.specs.ValueLaws.{value_got}
@@ -27,9 +27,9 @@ use Rattle.sheet.specs.Editions.{newest_edition}
 use Rattle.sheet.specs.Decode.{type_def, const_of, import_of, global_of, function_of, hook_of, export_of, module_of, decode}
 use Rattle.sheet.specs.Encode.{encode_type, encode_const, encode_import, encode_global, encode_func, encode_hook, encode_export}
 use Rattle.sheet.specs.Coded.{coded_type, coded_global, coded_func, coded_hook, coded_export}
-use Rattle.sheet.specs.TypeCodes.{type_codes, const_codes}
-use Rattle.sheet.specs.FuncCodes.{import_codes, global_codes, function_codes}
-use Rattle.sheet.specs.ModuleCodes.{hook_codes, export_codes}
+use Rattle.sheet.proofs.TypeCodes.{type_codes, const_codes}
+use Rattle.sheet.proofs.FuncCodes.{import_codes, global_codes, function_codes}
+use Rattle.sheet.proofs.ModuleCodes.{hook_codes, export_codes}
 use Rattle.open_layout.specs.Layout.{layout_of, layout, checked_of}
 use Rattle.open_layout.specs.Opened.{module_in}
 use Rattle.open_layout.specs.LayoutLaws.{layout_module, Located, located}

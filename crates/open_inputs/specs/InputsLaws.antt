@@ -7,13 +7,13 @@ use Rattle.std.proofs.Math.Option.{Option, none, some}
 use Rattle.lists.specs.ListLaws.{and_second}
 use Rattle.blocks.specs.Blocks.{words, length_word, framed}
 use Rattle.blocks.specs.Frame.{first_words}
-use Rattle.blocks.specs.FirstWords.{framed_length}
+use Rattle.blocks.proofs.FirstWords.{framed_length}
 use Rattle.error.specs.declared.LoadErrorKind.{LoadErrorKind}
 use Rattle.error.specs.declared.LoadErrorKind.TheVariants.{Decode, BadHostList, ShortSlice}
 use Rattle.reader.specs.declared.Step.TheVariants.{Next}
 use Rattle.reader.specs.Reader.{got, list_of}
 use Rattle.reader.specs.Value.{Whole}
-use Rattle.reader.specs.ReadLaws.{content_inv}
+use Rattle.reader.proofs.ReadLaws.{content_inv}
 use Rattle.reader.specs.Step.{step_of}
 use Rattle.reader.specs.StepLaws.{arrived}
 use Rattle.sheet.specs.Module.{Module}

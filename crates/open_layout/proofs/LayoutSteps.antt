@@ -10,7 +10,7 @@ use borrow.Author.Tests.{eq-eqb, ne_eqb}
 use Rattle.blocks.specs.Blocks.{framed}
 use Rattle.blocks.specs.Frame.{first_words}
 use Rattle.blocks.specs.Frame.{frame_of}
-use Rattle.blocks.specs.FirstWords.{first_words_framed, frame_found, frame_none}
+use Rattle.blocks.proofs.FirstWords.{first_words_framed, frame_found, frame_none}
 use Rattle.blocks.specs.declared.Frame.{Frame}
 use Rattle.blocks.specs.declared.Frame.TheVariants.{Words}
 use Rattle.blocks.specs.declared.Frame.TheVariants as frame

@@ -14,7 +14,7 @@ use Rattle.reader.specs.Reader.{Reader, ◌>>=◌, pure, fail, word, many, list_
 use Rattle.reader.specs.Step.{step_of}
 use Rattle.reader.specs.StepLaws.{word_read, word_none, arrived, stuck, make}
 use Rattle.reader.specs.AlikeLaws.{three_on}
-use Rattle.reader.specs.RecordSteps.{Sized, sized_two, sized_next, sized_end, sized_word, sized_list, sized_fit, sized_short}
+use Rattle.reader.proofs.RecordSteps.{Sized, sized_two, sized_next, sized_end, sized_word, sized_list, sized_fit, sized_short}
 use Rattle.sheet.specs.Module.{Const, plain, ParamList}
 use Rattle.sheet.specs.Decode.{value_type, plain_const, string_const, array_const, pair_of, map_const, const_bodies, const_of, param_of, some_params, param_list, import_of, global_of}
 

@@ -6,9 +6,9 @@ use native.Mathlib.Omega.{arith}
 use lib.ListN.{get_or}
 use Rattle.blocks.specs.Blocks.{words, edition_word}
 use Rattle.blocks.specs.Frame.{first_words}
-use Rattle.blocks.specs.FirstWords.{first_words_at}
+use Rattle.blocks.proofs.FirstWords.{first_words_at}
 use Rattle.reader.specs.ReaderLaws.{stands_in, word_codes}
-use Rattle.reader.specs.SizeLaws.{list_count}
+use Rattle.reader.proofs.SizeLaws.{list_count}
 use Rattle.open_layout.specs.LayoutLaws.{Located}
 use Rattle.open_layout.specs.Opened.{module_in}
 use Rattle.open_layout.specs.declared.Layout.{Layout}

@@ -9,7 +9,7 @@ use Rattle.std.proofs.lemmas.List.Edits.{length-paste}
 use Rattle.lists.specs.Lists.{all_of}
 use Rattle.blocks.specs.ByteLaws.{is_byte, is_word}
 use Rattle.blocks.specs.Frame.{first_words}
-use Rattle.blocks.specs.FirstWords.{first_words_small}
+use Rattle.blocks.proofs.FirstWords.{first_words_small}
 use Rattle.reader.specs.Reader.{Reader}
 use Rattle.reader.specs.Text.{string}
 use Rattle.sheet.specs.Decode.{type_def, const_of, import_of, function_of}

@@ -5,11 +5,11 @@ use Rattle.std.proofs.Math.Option.{none}
 use Rattle.blocks.specs.Blocks.{words}
 use Rattle.blocks.specs.Frame.{first_words}
 use Rattle.reader.specs.Reader.{got}
-use Rattle.reader.specs.SizeLaws.{word_within, word_held, first_held}
+use Rattle.reader.proofs.SizeLaws.{word_within, word_held, first_held}
 use Rattle.sheet.specs.Module.{Import, Func}
 use Rattle.sheet.specs.Decode.{import_of, function_of}
 use Rattle.sheet.specs.Encode.{encode_import, encode_func}
-use Rattle.sheet.specs.FuncCodes.{import_codes, function_codes}
+use Rattle.sheet.proofs.FuncCodes.{import_codes, function_codes}
 use Rattle.open_layout.specs.Opened.{module_in}
 use Rattle.open_sheet.specs.declared.Opened.{Opened}
 use Rattle.open_sheet.specs.Ready.{Ready, pos_at}

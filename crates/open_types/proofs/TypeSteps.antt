@@ -13,7 +13,7 @@ use Rattle.reader.specs.Reader.{Got, broken, got, Reader, and_then, fail, word, 
 use Rattle.reader.specs.Step.{step_of}
 use Rattle.reader.specs.StepLaws.{word_read, word_none, beyond, arrived, stuck, make}
 use Rattle.reader.specs.AlikeLaws.{two_on}
-use Rattle.reader.specs.RecordSteps.{Sized, sized_two, sized_list}
+use Rattle.reader.proofs.RecordSteps.{Sized, sized_two, sized_list}
 use Rattle.sheet.specs.Module.{ValueType, TypeDef, func, cell, iter}
 use Rattle.sheet.specs.Decode.{value_type, field_of, method_of, func_type, struct_type, of_one, of_two, type_bodies, type_def}
 

@@ -5,7 +5,7 @@ use mathlib.Core.List.{List}
 use mathlib.Core.Bool.{Bool, true, false}
 use lib.ListN.{length, get_or}
 use Rattle.descends.specs.Descends.{is_linked, length_in, if_known}
-use Rattle.descends.specs.DescendsLaws.{length_is}
+use Rattle.descends.proofs.DescendsLaws.{length_is}
 use Rattle.descends.specs.declared.ChainLength.TheVariants.{Length, NotLinked}
 use Rattle.descends.specs.Lengths.{chain_length_in}
 use Rattle.query.proofs.QuerySteps.{asked, by_linked}

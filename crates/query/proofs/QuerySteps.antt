@@ -8,7 +8,7 @@ use native.Mathlib.Decide.{dec_lt}
 use lib.Dec.{eqb, leb, ltb}
 use lib.ListN.{length, get_or}
 use borrow.Author.Tests.{le-leb, lt-leb, eq-eqb, ne_eqb, lt-ltb, le-ltb}
-use Rattle.descends.specs.DescendsLaws.{linked}
+use Rattle.descends.proofs.DescendsLaws.{linked}
 use Rattle.descends.specs.Descends.{table_length, spans_start, span_count, spans_end, is_linked, pre_in, post_in, is_within, descends}
 
 -- a test in a row that fails

@@ -6,7 +6,7 @@ use mathlib.Core.Bool.{Bool, true, false}
 use native.Mathlib.Omega.{arith}
 use lib.ListN.{length, get_or}
 use Rattle.descends.specs.Descends.{spans_start, is_linked, if_known}
-use Rattle.descends.specs.DescendsLaws.{pre_is, post_is, known_is, unknown_is}
+use Rattle.descends.proofs.DescendsLaws.{pre_is, post_is, known_is, unknown_is}
 use Rattle.descends.specs.declared.FamilySize.TheVariants.{Size, NotLinked}
 use Rattle.descends.specs.Sizes.{width_in, size_in}
 use Rattle.query.proofs.QuerySteps.{spans_inside, start_inside, header_inside, asked, by_linked}

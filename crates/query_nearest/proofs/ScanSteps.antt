@@ -15,7 +15,7 @@ use Rattle.law_counting.specs.Counting.{bool_ext}
 use Rattle.law_counting.specs.Kept.{keep_none}
 use Rattle.error.specs.Answer.{type_number}
 use Rattle.descends.specs.Descends.{span_count, is_linked, pre_in, post_in, is_within}
-use Rattle.descends.specs.DescendsLaws.{pre_is, post_is, within_is, is_within_lem, not_within}
+use Rattle.descends.proofs.DescendsLaws.{pre_is, post_is, within_is, is_within_lem, not_within}
 use Rattle.descends.specs.Sizes.{width_in}
 use Rattle.descends.specs.declared.NearestFamily.{NearestFamily}
 use Rattle.descends.specs.declared.NearestFamily.TheVariants.{Found, NoFamily, NotLinked}

@@ -4,7 +4,7 @@ use Rattle.std.proofs.Math.Path.{sym}
 use Rattle.std.proofs.Common.{ap, ◌∙◌, arith, lt-ltb, le-ltb}
 use Rattle.blocks.specs.Blocks.{words}
 use Rattle.blocks.specs.Frame.{first_words}
-use Rattle.blocks.specs.FirstWords.{length_first_words, first_words_at}
+use Rattle.blocks.proofs.FirstWords.{length_first_words, first_words_at}
 use Rattle.reader.specs.declared.Step.{Step}
 use Rattle.reader.specs.declared.Step.TheVariants.{Next, Broken}
 use Rattle.reader.specs.Reader.{Got, broken, got, and_then, word, code_below}

@@ -8,7 +8,7 @@ use lib.Seq.{take_all}
 use Rattle.lists.specs.Lists.{concat_map}
 use Rattle.blocks.specs.Blocks.{words}
 use Rattle.blocks.specs.Frame.{first_words}
-use Rattle.blocks.specs.FirstWords.{length_first_words}
+use Rattle.blocks.proofs.FirstWords.{length_first_words}
 use Rattle.error.specs.declared.What.TheVariants.{Functions, Strings}
 use Rattle.error.specs.declared.LoadErrorKind.{LoadErrorKind}
 use Rattle.error.specs.declared.Verdict.{Verdict}
@@ -21,7 +21,7 @@ use Rattle.reader.specs.ReaderLaws.{then_inv}
 use Rattle.reader.specs.StepLaws.{word_read}
 use Rattle.reader.specs.Value.{Whole, value_of}
 use Rattle.reader.specs.ValueLaws.{whole_inv, got_whole, value_got, list_whole, list_value, list_within, many_first}
-use Rattle.reader.specs.SizeLaws.{word_takes, many_inside}
+use Rattle.reader.proofs.SizeLaws.{word_takes, many_inside}
 use Rattle.sheet.specs.Module.{ValueType, dyn, Field, Method, struct, coroutine, Module}
 use Rattle.sheet.specs.Decode.{value_type, field_of, method_of, struct_type}
 use Rattle.open_layout.specs.Opened.{module_in}

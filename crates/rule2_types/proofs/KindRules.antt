@@ -26,7 +26,7 @@ use Rattle.reader.specs.Value.{Whole, value_of}
 use Rattle.reader.specs.ValueLaws.{whole_inv, got_whole, not_whole, value_got, list_within}
 use Rattle.sheet.specs.Module.{ValueType, dyn, TypeDef, func, cell, iter, coroutine, Module, type_at}
 use Rattle.sheet.specs.Decode.{value_type, func_type, struct_type, of_one, of_two, type_bodies, type_def}
-use Rattle.sheet.specs.SizeLaws.{value_takes}
+use Rattle.sheet.proofs.SizeLaws.{value_takes}
 use Rattle.open_layout.specs.Opened.{module_in}
 use Rattle.open_sheet.specs.declared.Opened.{Opened}
 use Rattle.open_sheet.specs.Ready.{Ready, pos_at}

@@ -12,12 +12,12 @@ use Rattle.lists.specs.ListLaws.{length_concat_map}
 use Rattle.blocks.specs.Blocks.{words}
 use Rattle.blocks.specs.Frame.{first_words}
 use Rattle.reader.specs.Reader.{got, encode_list}
-use Rattle.reader.specs.SizeLaws.{word_within, word_held}
+use Rattle.reader.proofs.SizeLaws.{word_within, word_held}
 use Rattle.sheet.specs.Module.{Struct, TypeDef, func, struct, cell, iter, coroutine, kind_word, type_at, struct_of, is_struct}
 use Rattle.sheet.specs.Decode.{type_def}
 use Rattle.sheet.specs.Encode.{encode_value, encode_field, encode_method, encode_struct, encode_body, encode_type}
 use Rattle.sheet.specs.Coded.{coded_type}
-use Rattle.sheet.specs.TypeCodes.{type_codes}
+use Rattle.sheet.proofs.TypeCodes.{type_codes}
 use Rattle.sheet.specs.TypeLaws.{type_out, struct_known}
 use Rattle.open_layout.specs.Opened.{module_in}
 use Rattle.open_sheet.specs.declared.Opened.{Opened}

@@ -8,7 +8,7 @@ use borrow.Author.Tests.{le-leb}
 use Rattle.lists.specs.Lists.{concat_map}
 use Rattle.blocks.specs.Blocks.{words}
 use Rattle.blocks.specs.Frame.{first_words}
-use Rattle.blocks.specs.FirstWords.{length_first_words}
+use Rattle.blocks.proofs.FirstWords.{length_first_words}
 use Rattle.error.specs.declared.What.TheVariants.{Strings}
 use Rattle.error.specs.declared.LoadErrorKind.{LoadErrorKind}
 use Rattle.error.specs.declared.Verdict.{Verdict}
@@ -24,7 +24,7 @@ use Rattle.reader.specs.ValueLaws.{whole_inv, got_whole, not_whole, value_got}
 use Rattle.sheet.specs.Module.{Const, plain, Module}
 use Rattle.sheet.specs.Decode.{plain_const, string_const, array_const, pair_of, map_const, const_bodies, const_of}
 use Rattle.sheet.specs.Encode.{encode_const}
-use Rattle.sheet.specs.TypeCodes.{const_codes}
+use Rattle.sheet.proofs.TypeCodes.{const_codes}
 use Rattle.open_layout.specs.Opened.{module_in}
 use Rattle.consts.specs.Consts.{children_of, depth_of, string_const_faults}
 use Rattle.open_sheet.specs.declared.Opened.{Opened}

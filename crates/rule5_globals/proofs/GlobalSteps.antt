@@ -19,11 +19,11 @@ use Rattle.reader.specs.Reader.{got, word, list_of}
 use Rattle.reader.specs.ReaderLaws.{then_inv}
 use Rattle.reader.specs.Value.{Whole, value_of}
 use Rattle.reader.specs.ValueLaws.{whole_inv, got_whole, value_got}
-use Rattle.reader.specs.SizeLaws.{word_within, word_held}
+use Rattle.reader.proofs.SizeLaws.{word_within, word_held}
 use Rattle.sheet.specs.Module.{ValueType, dyn, Global}
 use Rattle.sheet.specs.Decode.{value_type, global_of}
 use Rattle.sheet.specs.Encode.{encode_value, encode_global}
-use Rattle.sheet.specs.FuncCodes.{global_codes}
+use Rattle.sheet.proofs.FuncCodes.{global_codes}
 use Rattle.types.specs.Types.{value_faults}
 use Rattle.imports.specs.Imports.{init_faults, global_faults, globals_faults}
 use Rattle.open_layout.specs.Opened.{module_in}

@@ -19,7 +19,7 @@ use Rattle.error.specs.VerdictLaws.{none_broken, verdict_stop}
 use Rattle.reader.specs.Reader.{many, list_of}
 use Rattle.reader.specs.Value.{Whole}
 use Rattle.reader.specs.ValueLaws.{whole_inv, value_got, list_whole, list_value}
-use Rattle.reader.specs.SizeLaws.{many_length}
+use Rattle.reader.proofs.SizeLaws.{many_length}
 use Rattle.sheet.specs.Module.{Import, Module}
 use Rattle.host.specs.declared.Found.{Found}
 use Rattle.host.specs.declared.Found.TheVariants.{At, Missing}

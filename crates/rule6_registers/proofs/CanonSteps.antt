@@ -15,9 +15,9 @@ use Rattle.reader.specs.ValueLaws.{whole_inv, value_got}
 use Rattle.sheet.specs.Module.{ValueType, basic, ref, dyn, value_word, TypeDef, Module}
 use Rattle.sheet.specs.Decode.{basic_types, value_type}
 use Rattle.sheet.specs.Coded.{coded_value}
-use Rattle.sheet.specs.TypeCodes.{value_codes}
+use Rattle.sheet.proofs.TypeCodes.{value_codes}
 use Rattle.canon.specs.Canon.{canon_type, canon_value, canon_word}
-use Rattle.canon.specs.CanonLaws.{canon_most}
+use Rattle.canon.proofs.CanonLaws.{canon_most}
 use Rattle.types.specs.Types.{value_faults}
 use Rattle.open_layout.specs.Opened.{module_in}
 use Rattle.open_sheet.specs.declared.Opened.{Opened}

@@ -11,18 +11,18 @@ use Rattle.lists.specs.ListLaws.{length_concat_map, map_at}
 use Rattle.lists.specs.FrontLaws.{front_long, front_next, front_differs, front_end}
 use Rattle.blocks.specs.Blocks.{words}
 use Rattle.blocks.specs.Frame.{first_words}
-use Rattle.blocks.specs.FirstWords.{first_words_at}
+use Rattle.blocks.proofs.FirstWords.{first_words_at}
 use Rattle.error.specs.declared.LoadErrorKind.{LoadErrorKind}
 use Rattle.law_faults.specs.Empty.{every}
 use Rattle.reader.specs.Reader.{got, list_of, encode_list}
-use Rattle.reader.specs.ReadLaws.{read_at, listed_at}
+use Rattle.reader.proofs.ReadLaws.{read_at, listed_at}
 use Rattle.reader.specs.Value.{Whole, value_of}
 use Rattle.reader.specs.ValueLaws.{whole_inv, got_whole, value_got, list_within}
 use Rattle.sheet.specs.Module.{ValueType, dyn, Module}
 use Rattle.sheet.specs.Decode.{value_type}
 use Rattle.sheet.specs.Encode.{encode_value}
 use Rattle.sheet.specs.Coded.{coded_value}
-use Rattle.sheet.specs.TypeCodes.{value_codes, values_codes}
+use Rattle.sheet.proofs.TypeCodes.{value_codes, values_codes}
 use Rattle.canon.specs.Canon.{canon_word}
 use Rattle.types.specs.Types.{value_faults}
 use Rattle.funcs.specs.Funcs.{params_first}

@@ -6,15 +6,15 @@ use native.Mathlib.Omega.{arith}
 use Rattle.std.proofs.Math.ListN.{get_or}
 use Rattle.blocks.specs.Blocks.{words}
 use Rattle.blocks.specs.Frame.{first_words}
-use Rattle.blocks.specs.FirstWords.{length_first_words, first_words_at}
+use Rattle.blocks.proofs.FirstWords.{length_first_words, first_words_at}
 use Rattle.reader.specs.Reader.{got}
 use Rattle.reader.specs.ReaderLaws.{stands_in}
-use Rattle.reader.specs.ReadLaws.{read_at}
+use Rattle.reader.proofs.ReadLaws.{read_at}
 use Rattle.sheet.specs.Module.{ValueType, value_word}
 use Rattle.sheet.specs.Decode.{value_type}
 use Rattle.sheet.specs.Encode.{encode_value}
 use Rattle.sheet.specs.Coded.{coded_value}
-use Rattle.sheet.specs.TypeCodes.{value_codes}
+use Rattle.sheet.proofs.TypeCodes.{value_codes}
 
 module _ (b : List ℕ) (n at : ℕ) {v : ValueType} {q : ℕ} (e : value_type (first_words b n) at ≡ got v q) where
   pub value_within : at < n

@@ -18,7 +18,7 @@ use Rattle.sheet.specs.Editions.{may_leave_out}
 use Rattle.imports.specs.Params.{sig_params, optional}
 use Rattle.code.specs.Callee.{import_at}
 use Rattle.code.specs.Code.{mandatory, most_arguments, fewest_arguments}
-use Rattle.code.specs.ArityLaws.{fewest_all, fewest_mandatory}
+use Rattle.code.proofs.ArityLaws.{fewest_all, fewest_mandatory}
 use Rattle.region.specs.Region.{Off, Frame, word_at}
 use Rattle.region.specs.RegionLaws.{frame_refl, fill_more}
 use Rattle.open_layout.specs.Opened.{module_in}

@@ -17,14 +17,14 @@ use Rattle.error.specs.Verdict.{verdict_of}
 use Rattle.sheet.specs.Module.{coroutine, type_at, kind_word}
 use Rattle.sheet.specs.Decode.{type_def}
 use Rattle.sheet.specs.Encode.{encode_type}
-use Rattle.sheet.specs.TypeCodes.{type_codes}
+use Rattle.sheet.proofs.TypeCodes.{type_codes}
 use Rattle.open_layout.specs.Opened.{module_in}
 use Rattle.open_sheet.specs.declared.Opened.{Opened}
 use Rattle.open_sheet.specs.Ready.{Ready, pos_at}
 use Rattle.open_sheet.specs.ReadyLaws.{count_types, types_in, entry_ends}
 use Rattle.rule_frames.specs.declared.Frame.{Frame}
 use Rattle.rule_frames.specs.Frames.{func_of, Framed}
-use Rattle.reader.specs.SizeLaws.{first_held}
+use Rattle.reader.proofs.SizeLaws.{first_held}
 use Rattle.rule7_callees.specs.Callees.{wanted_faults}
 use Rattle.rule7_callees.proofs.Words.{number_within, number_held}
 use Rattle.rule7_numbers.proofs.NumberSteps.{test_holds, test_broken}

@@ -10,12 +10,12 @@ use Rattle.blocks.specs.Blocks.{words}
 use Rattle.blocks.specs.Frame.{first_words}
 use Rattle.reader.specs.Reader.{got, word, list_of, encode_list, encode_words}
 use Rattle.reader.specs.ReaderLaws.{stands_in, words_codes}
-use Rattle.reader.specs.SizeLaws.{word_within, word_held}
+use Rattle.reader.proofs.SizeLaws.{word_within, word_held}
 use Rattle.sheet.specs.Module.{ValueType, basic, is_dyn, Arg, Func}
 use Rattle.sheet.specs.Decode.{value_type, function_of, arg_of}
 use Rattle.sheet.specs.Encode.{encode_value, encode_params, encode_arg, encode_handler, encode_switch, encode_inst, encode_func}
-use Rattle.sheet.specs.TypeCodes.{values_codes}
-use Rattle.sheet.specs.FuncCodes.{arg_codes, args_codes, function_codes}
+use Rattle.sheet.proofs.TypeCodes.{values_codes}
+use Rattle.sheet.proofs.FuncCodes.{arg_codes, args_codes, function_codes}
 use Rattle.open_index.specs.IndexLaws.{list_fit, indexed}
 use Rattle.rule_signatures.specs.SignatureLaws.{dyn_word}
 

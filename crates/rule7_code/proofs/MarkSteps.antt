@@ -13,14 +13,14 @@ use Rattle.lists.specs.Lists.{concat_map}
 use Rattle.lists.specs.ListLaws.{and_first, and_second}
 use Rattle.blocks.specs.Blocks.{words}
 use Rattle.blocks.specs.Frame.{first_words}
-use Rattle.blocks.specs.FirstWords.{length_first_words}
+use Rattle.blocks.proofs.FirstWords.{length_first_words}
 use Rattle.error.specs.declared.LoadErrorKind.{LoadErrorKind}
 use Rattle.error.specs.declared.LoadErrorKind.TheVariants.{InvalidHandler, CatchNotDyn}
 use Rattle.error.specs.Answer.{unless}
 use Rattle.reader.specs.Reader.{got, many}
 use Rattle.reader.specs.Value.{Whole, value_of}
 use Rattle.reader.specs.ValueLaws.{got_whole, value_got, list_whole, list_value, many_first}
-use Rattle.reader.specs.SizeLaws.{list_count, many_inside}
+use Rattle.reader.proofs.SizeLaws.{list_count, many_inside}
 use Rattle.sheet.specs.Module.{Handler, Func}
 use Rattle.sheet.specs.Decode.{handler_of}
 use Rattle.code.specs.Code.{is_dyn_register, good_handler, handler_faults}

@@ -8,7 +8,7 @@ use lib.Dec.{eqb}
 use lib.ListN.{length, get_or}
 use Rattle.blocks.specs.Blocks.{words}
 use Rattle.blocks.specs.Frame.{first_words}
-use Rattle.blocks.specs.FirstWords.{length_first_words}
+use Rattle.blocks.proofs.FirstWords.{length_first_words}
 use Rattle.error.specs.declared.TypeKind.{TypeKind}
 use Rattle.error.specs.declared.TypeKind.TheVariants.{Struct, Array, Map, Cell}
 use Rattle.error.specs.declared.LoadErrorKind.{LoadErrorKind}
@@ -19,7 +19,7 @@ use Rattle.error.specs.Answer.{unless}
 use Rattle.error.specs.Verdict.{verdict_of}
 use Rattle.reader.specs.ReaderLaws.{stands_in}
 use Rattle.sheet.specs.Module.{Module, type_at, kind_word, slot_a, slot_b, slot_c, slot_d, slot_w}
-use Rattle.sheet.specs.FuncCodes.{shapes_codes}
+use Rattle.sheet.proofs.FuncCodes.{shapes_codes}
 use Rattle.open_layout.specs.Opened.{module_in}
 use Rattle.open_sheet.specs.declared.Opened.{Opened}
 use Rattle.open_sheet.specs.ReadyLaws.{funcs_in, captures_room}

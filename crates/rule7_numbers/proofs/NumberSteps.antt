@@ -13,7 +13,7 @@ use Rattle.error.specs.declared.Verdict.TheVariants.{Holds, Broken}
 use Rattle.error.specs.Answer.{unless}
 use Rattle.error.specs.Verdict.{verdict_of}
 use Rattle.code.specs.Code.{promote, to_ref, catchable_kinds, wide_types, arity_faults}
-use Rattle.code.specs.ArityLaws.{arity_few, arity_many, arity_right}
+use Rattle.code.proofs.ArityLaws.{arity_few, arity_many, arity_right}
 use Rattle.rule7_numbers.specs.Numbers.{window_in, capture_faults, promote_faults, dyn_faults, ref_faults, raise_faults, wide_faults, outside_try}
 
 -- ── a test ──

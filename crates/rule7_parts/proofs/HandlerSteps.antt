@@ -12,7 +12,7 @@ use Rattle.lists.specs.Lists.{concat_map}
 use Rattle.lists.specs.ListLaws.{and_second}
 use Rattle.blocks.specs.Blocks.{words}
 use Rattle.blocks.specs.Frame.{first_words}
-use Rattle.blocks.specs.FirstWords.{length_first_words}
+use Rattle.blocks.proofs.FirstWords.{length_first_words}
 use Rattle.error.specs.declared.LoadErrorKind.{LoadErrorKind}
 use Rattle.error.specs.declared.LoadErrorKind.TheVariants.{InvalidHandler, CatchNotDyn}
 use Rattle.error.specs.declared.Verdict.{Verdict}
@@ -23,10 +23,10 @@ use Rattle.reader.specs.Reader.{broken, got, list_of}
 use Rattle.reader.specs.StepLaws.{word_read}
 use Rattle.reader.specs.Value.{Whole, value_of}
 use Rattle.reader.specs.ValueLaws.{whole_inv, got_whole, value_got, list_within}
-use Rattle.reader.specs.SizeLaws.{list_count, many_inside}
+use Rattle.reader.proofs.SizeLaws.{list_count, many_inside}
 use Rattle.sheet.specs.Module.{ValueType, basic, ref, is_dyn, Handler}
 use Rattle.sheet.specs.Decode.{value_type, handler_of}
-use Rattle.sheet.specs.SizeLaws.{value_takes}
+use Rattle.sheet.proofs.SizeLaws.{value_takes}
 use Rattle.code.specs.Code.{is_dyn_register, good_handler, handler_faults}
 use Rattle.law_judging.specs.Judging.{Judges, list_faults, judges_start, judges_end, judges_whole, judges_next, judges_stop}
 use Rattle.rule_frames.specs.declared.Frame.{Frame}

@@ -6,15 +6,15 @@ use native.Mathlib.Omega.{arith}
 use lib.ListN.{length, get_or}
 use Rattle.blocks.specs.Blocks.{words}
 use Rattle.blocks.specs.Frame.{first_words}
-use Rattle.blocks.specs.FirstWords.{length_first_words}
+use Rattle.blocks.proofs.FirstWords.{length_first_words}
 use Rattle.reader.specs.Reader.{got, Reader, many, list_of}
 use Rattle.reader.specs.ReaderLaws.{free, then_inv}
 use Rattle.reader.specs.ValueLaws.{got_whole, list_within}
-use Rattle.reader.specs.SizeLaws.{Takes, coded_takes, list_read, list_count, many_inside}
+use Rattle.reader.proofs.SizeLaws.{Takes, coded_takes, list_read, list_count, many_inside}
 use Rattle.sheet.specs.Decode.{handler_of, inst_of}
 use Rattle.sheet.specs.Encode.{encode_handler, encode_inst}
 use Rattle.sheet.specs.Coded.{coded_inst}
-use Rattle.sheet.specs.FuncCodes.{handler_codes, inst_codes}
+use Rattle.sheet.proofs.FuncCodes.{handler_codes, inst_codes}
 
 pub handler_takes : Takes handler_of 4
 unfolding encode_handler

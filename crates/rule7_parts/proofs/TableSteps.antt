@@ -8,7 +8,7 @@ use lib.ListN.{length, get_or}
 use Rattle.lists.specs.Lists.{concat_map}
 use Rattle.blocks.specs.Blocks.{words}
 use Rattle.blocks.specs.Frame.{first_words}
-use Rattle.blocks.specs.FirstWords.{length_first_words}
+use Rattle.blocks.proofs.FirstWords.{length_first_words}
 use Rattle.error.specs.declared.What.TheVariants.{TableTargets}
 use Rattle.error.specs.declared.LoadErrorKind.{LoadErrorKind}
 use Rattle.error.specs.declared.Verdict.{Verdict}
@@ -21,7 +21,7 @@ use Rattle.reader.specs.ReaderLaws.{then_inv}
 use Rattle.reader.specs.StepLaws.{word_read}
 use Rattle.reader.specs.Value.{Whole, value_of}
 use Rattle.reader.specs.ValueLaws.{whole_inv, got_whole, value_got, list_within, many_first}
-use Rattle.reader.specs.SizeLaws.{list_count, word_takes, many_inside, many_takes, list_read}
+use Rattle.reader.proofs.SizeLaws.{list_count, word_takes, many_inside, many_takes, list_read}
 use Rattle.sheet.specs.Module.{Switch, Func}
 use Rattle.sheet.specs.Decode.{switch_of}
 use Rattle.code.specs.Code.{table_faults}

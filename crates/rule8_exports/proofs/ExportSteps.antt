@@ -14,13 +14,13 @@ use Rattle.error.specs.declared.Verdict.{Verdict}
 use Rattle.error.specs.Answer.{in_range}
 use Rattle.error.specs.Verdict.{verdict_of}
 use Rattle.reader.specs.Reader.{got}
-use Rattle.reader.specs.ReadLaws.{listed_at}
-use Rattle.reader.specs.SizeLaws.{word_within, word_held, first_held, list_count}
+use Rattle.reader.proofs.ReadLaws.{listed_at}
+use Rattle.reader.proofs.SizeLaws.{word_within, word_held, first_held, list_count}
 use Rattle.sheet.specs.Module.{Export, Module}
 use Rattle.sheet.specs.Decode.{export_of}
 use Rattle.sheet.specs.Encode.{encode_export}
 use Rattle.sheet.specs.Coded.{coded_export}
-use Rattle.sheet.specs.ModuleCodes.{export_codes}
+use Rattle.sheet.proofs.ModuleCodes.{export_codes}
 use Rattle.hooks.specs.Hooks.{no_export, export_at, index_faults}
 use Rattle.open_layout.specs.Opened.{module_in}
 use Rattle.open_sheet.specs.declared.Opened.{Opened}

@@ -16,7 +16,7 @@ use Rattle.error.specs.Verdict.{verdict_of}
 use Rattle.sheet.specs.Module.{Module}
 use Rattle.canon.specs.Canon.{canon_string}
 use Rattle.hooks.specs.Hooks.{export_at, name_faults}
-use Rattle.hooks.specs.ExportLaws.{name_absent, name_taken, name_free}
+use Rattle.hooks.proofs.ExportLaws.{name_absent, name_taken, name_free}
 use Rattle.region.specs.RegionLaws.{frame_set}
 use Rattle.open_layout.specs.Opened.{module_in}
 use Rattle.open_sheet.specs.declared.Opened.{Opened}

@@ -11,7 +11,7 @@ use Rattle.lists.specs.Lists.{all_of, any_of, same}
 use Rattle.lists.specs.ListLaws.{both, all_append}
 use Rattle.lists.specs.AllLaws.{any_join, any_agree}
 use Rattle.sheet.specs.Module.{Export, Module}
-use Rattle.canon.specs.CanonLaws.{string_most, string_canon}
+use Rattle.canon.proofs.CanonLaws.{string_most, string_canon}
 use Rattle.hooks.specs.Hooks.{no_export, export_at, name_bytes, is_duplicate}
 use Rattle.rule8_exports.specs.Exports.{has_name, canon_name, is_met, NamesMarked}
 

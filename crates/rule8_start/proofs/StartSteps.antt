@@ -10,7 +10,7 @@ use lib.ListN.{length, get_or}
 use borrow.Author.Tests.{eq-eqb, ne_eqb, lt-ltb, le-ltb}
 use Rattle.blocks.specs.Blocks.{words}
 use Rattle.blocks.specs.Frame.{first_words}
-use Rattle.blocks.specs.FirstWords.{length_first_words, first_words_at}
+use Rattle.blocks.proofs.FirstWords.{length_first_words, first_words_at}
 use Rattle.error.specs.declared.What.TheVariants.{Functions}
 use Rattle.error.specs.declared.LoadErrorKind.TheVariants.{OutOfRange, BadStart, CalleeHasCaptures}
 use Rattle.error.specs.declared.Verdict.{Verdict}

@@ -15,10 +15,10 @@ use Rattle.reader.specs.Step.{step_of}
 use Rattle.reader.specs.StepLaws.{word_read, word_none}
 use Rattle.reader.specs.Value.{Whole, value_of}
 use Rattle.reader.specs.ValueLaws.{whole_inv, not_whole, value_got}
-use Rattle.reader.specs.RecordSteps.{sized_word, sized_list}
+use Rattle.reader.proofs.RecordSteps.{sized_word, sized_list}
 use Rattle.sheet.specs.Module.{Func}
 use Rattle.sheet.specs.Decode.{value_type, param_list, arg_of, handler_of, switch_of, inst_of, function_of}
-use Rattle.sheet.specs.SizeLaws.{handler_sized, shapes_alike}
+use Rattle.sheet.proofs.SizeLaws.{handler_sized, shapes_alike}
 use Rattle.code.specs.Callee.{no_func}
 use Rattle.rule_bodies.specs.declared.Body.{Body}
 use Rattle.rule_bodies.specs.declared.Front.{Front}

@@ -9,7 +9,7 @@ use Rattle.blocks.specs.Frame.{first_words}
 use Rattle.reader.specs.Reader.{word, list_of}
 use Rattle.reader.specs.Step.{step_of}
 use Rattle.reader.specs.Value.{Whole, value_of}
-use Rattle.reader.specs.SizeLaws.{list_count}
+use Rattle.reader.proofs.SizeLaws.{list_count}
 use Rattle.sheet.specs.Module.{Func}
 use Rattle.sheet.specs.Decode.{value_type, handler_of, switch_of, function_of}
 use Rattle.open_layout.specs.Opened.{module_in}

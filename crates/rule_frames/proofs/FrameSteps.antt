@@ -6,7 +6,7 @@ use lib.ListN.{length, get_or}
 use Rattle.blocks.specs.Blocks.{words}
 use Rattle.blocks.specs.Frame.{first_words}
 use Rattle.reader.specs.Value.{Whole, value_of}
-use Rattle.reader.specs.SizeLaws.{list_count}
+use Rattle.reader.proofs.SizeLaws.{list_count}
 use Rattle.error.specs.declared.FuncId.{FuncId}
 use Rattle.sheet.specs.Module.{Func}
 use Rattle.sheet.specs.Decode.{function_of}

@@ -10,10 +10,10 @@ use Rattle.blocks.specs.Blocks.{words}
 use Rattle.blocks.specs.Frame.{first_words}
 use Rattle.reader.specs.Reader.{Got, got, and_then, Reader, word, many, list_of}
 use Rattle.reader.specs.ReaderLaws.{stands_in, then_inv, word_codes}
-use Rattle.reader.specs.SizeLaws.{list_count}
+use Rattle.reader.proofs.SizeLaws.{list_count}
 use Rattle.sheet.specs.Decode.{arg_of}
 use Rattle.sheet.specs.Encode.{encode_arg}
-use Rattle.sheet.specs.FuncCodes.{args_codes, shapes_codes}
+use Rattle.sheet.proofs.FuncCodes.{args_codes, shapes_codes}
 use Rattle.open_layout.specs.Layout.{pos_of}
 use Rattle.open_index.specs.Index.{edges}
 use Rattle.open_index.specs.IndexLaws.{placed, edges_got, indexed, list_fit}

@@ -10,7 +10,7 @@ use lib.ListN.{length, get_or}
 use borrow.Author.Tests.{ltb-true, lt-ltb, le-ltb}
 use Rattle.blocks.specs.Blocks.{words}
 use Rattle.blocks.specs.Frame.{first_words}
-use Rattle.blocks.specs.FirstWords.{length_first_words, first_words_at}
+use Rattle.blocks.proofs.FirstWords.{length_first_words, first_words_at}
 use Rattle.reader.specs.Reader.{Got, broken, got, Reader, and_then, pure, fail, word, many, list_of}
 use Rattle.reader.specs.ReaderLaws.{stands_at, stands_in, then_inv}
 use Rattle.reader.specs.StepLaws.{word_read, word_none}
@@ -20,7 +20,7 @@ use Rattle.sheet.specs.Module.{ValueType, basic, ref, first_ref, value_word, Par
 use Rattle.sheet.specs.Decode.{value_type, param_of, some_params, param_list, arg_of}
 use Rattle.sheet.specs.Encode.{encode_value}
 use Rattle.sheet.specs.Coded.{coded_value}
-use Rattle.sheet.specs.TypeCodes.{value_codes}
+use Rattle.sheet.proofs.TypeCodes.{value_codes}
 use Rattle.rule_list_members.specs.Members.{pairs_at}
 use Rattle.rule_lists.specs.References.{value_from}
 use Rattle.rule_list_members.proofs.MemberSteps.{word_inv}

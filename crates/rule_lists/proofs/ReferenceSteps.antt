@@ -10,12 +10,12 @@ use borrow.Author.Tests.{lt-ltb, le-ltb, eq-eqb, ne_eqb}
 use Rattle.lists.specs.Lists.{same}
 use Rattle.blocks.specs.Blocks.{words}
 use Rattle.blocks.specs.Frame.{first_words}
-use Rattle.blocks.specs.FirstWords.{length_first_words, first_words_at}
+use Rattle.blocks.proofs.FirstWords.{length_first_words, first_words_at}
 use Rattle.reader.specs.ReaderLaws.{Stands, stands_in, stands_at}
 use Rattle.sheet.specs.Module.{basic, ref, dyn, is_dyn, first_ref, value_word, TypeDef, func, struct, cell, iter, coroutine, kind_word, Module, type_at}
 use Rattle.sheet.specs.Decode.{type_def}
 use Rattle.sheet.specs.Encode.{encode_value, encode_body, encode_type}
-use Rattle.sheet.specs.TypeCodes.{type_codes}
+use Rattle.sheet.proofs.TypeCodes.{type_codes}
 use Rattle.canon.specs.Canon.{same_type}
 use Rattle.open_layout.specs.Opened.{module_in}
 use Rattle.open_sheet.specs.declared.Opened.{Opened}

@@ -10,17 +10,17 @@ use borrow.Author.Tests.{eq-eqb, eqb-true}
 use Rattle.lists.specs.Lists.{all_of}
 use Rattle.blocks.specs.Blocks.{words}
 use Rattle.blocks.specs.Frame.{first_words}
-use Rattle.blocks.specs.FirstWords.{length_first_words, first_words_at}
+use Rattle.blocks.proofs.FirstWords.{length_first_words, first_words_at}
 use Rattle.reader.specs.Reader.{got, many, list_of}
 use Rattle.reader.specs.ReaderLaws.{stands_in}
-use Rattle.reader.specs.ReadLaws.{read_at}
+use Rattle.reader.proofs.ReadLaws.{read_at}
 use Rattle.reader.specs.Value.{Whole, value_of}
 use Rattle.reader.specs.ValueLaws.{whole_inv, got_whole, value_got, list_whole, list_value, many_first}
 use Rattle.sheet.specs.Module.{ValueType, is_dyn}
 use Rattle.sheet.specs.Decode.{value_type}
 use Rattle.sheet.specs.Encode.{encode_value}
 use Rattle.sheet.specs.Coded.{coded_value}
-use Rattle.sheet.specs.TypeCodes.{value_codes}
+use Rattle.sheet.proofs.TypeCodes.{value_codes}
 use Rattle.imports.specs.Imports.{one_dyn}
 use Rattle.rule_signatures.specs.SignatureLaws.{dyn_word}
 use Rattle.rule_signatures.proofs.SigSteps.{values_count}

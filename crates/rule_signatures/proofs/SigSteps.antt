@@ -12,7 +12,7 @@ use Rattle.lists.specs.Lists.{all_of}
 use Rattle.lists.specs.ListLaws.{length_concat_map}
 use Rattle.blocks.specs.Blocks.{words}
 use Rattle.blocks.specs.Frame.{first_words}
-use Rattle.blocks.specs.FirstWords.{first_words_at}
+use Rattle.blocks.proofs.FirstWords.{first_words_at}
 use Rattle.error.specs.declared.What.TheVariants.{Types}
 use Rattle.error.specs.declared.LoadErrorKind.TheVariants.{OutOfRange, BadSignature}
 use Rattle.error.specs.declared.Verdict.{Verdict}
@@ -22,7 +22,7 @@ use Rattle.error.specs.Verdict.{verdict_of}
 use Rattle.error.specs.VerdictLaws.{range_holds, range_broken, verdict_then, verdict_stop}
 use Rattle.reader.specs.Reader.{broken, got, list_of, encode_list}
 use Rattle.reader.specs.ReaderLaws.{then_inv}
-use Rattle.reader.specs.ReadLaws.{read_at}
+use Rattle.reader.proofs.ReadLaws.{read_at}
 use Rattle.reader.specs.StepLaws.{word_read, word_none}
 use Rattle.reader.specs.Value.{Whole, value_of}
 use Rattle.reader.specs.ValueLaws.{whole_inv, got_whole, not_whole, value_got, list_within}
@@ -30,7 +30,7 @@ use Rattle.sheet.specs.Module.{ValueType, Sig, func, coroutine, type_at, kind_wo
 use Rattle.sheet.specs.Decode.{value_type, func_type, type_def}
 use Rattle.sheet.specs.Encode.{encode_value, encode_type}
 use Rattle.sheet.specs.Coded.{coded_value, coded_type}
-use Rattle.sheet.specs.TypeCodes.{values_codes, type_codes}
+use Rattle.sheet.proofs.TypeCodes.{values_codes, type_codes}
 use Rattle.imports.specs.Params.{is_signature, signature_faults, sig_params, sig_results}
 use Rattle.open_layout.specs.Opened.{module_in}
 use Rattle.open_sheet.specs.declared.Opened.{Opened}

@@ -6,7 +6,7 @@ use native.Mathlib.Omega.{arith}
 use lib.ListN.{length, get_or}
 use Rattle.blocks.specs.Blocks.{words}
 use Rattle.blocks.specs.Frame.{first_words}
-use Rattle.blocks.specs.FirstWords.{length_first_words}
+use Rattle.blocks.proofs.FirstWords.{length_first_words}
 use Rattle.error.specs.declared.What.TheVariants.{Types, Functions, Strings}
 use Rattle.error.specs.declared.LoadErrorKind.{LoadErrorKind}
 use Rattle.error.specs.declared.Verdict.{Verdict}
@@ -17,7 +17,7 @@ use Rattle.reader.specs.Reader.{word, list_of}
 use Rattle.reader.specs.StepLaws.{word_read}
 use Rattle.reader.specs.Value.{value_of}
 use Rattle.reader.specs.ValueLaws.{value_got}
-use Rattle.reader.specs.SizeLaws.{word_takes, many_inside}
+use Rattle.reader.proofs.SizeLaws.{word_takes, many_inside}
 use Rattle.open_layout.specs.Opened.{module_in}
 use Rattle.open_sheet.specs.declared.Opened.{Opened}
 use Rattle.open_sheet.specs.Ready.{Opens}

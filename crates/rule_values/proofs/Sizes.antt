@@ -8,11 +8,11 @@ use Rattle.blocks.specs.Blocks.{words}
 use Rattle.blocks.specs.Frame.{first_words}
 use Rattle.reader.specs.Reader.{got, Reader, and_then, many, list_of}
 use Rattle.reader.specs.ReaderLaws.{free, then_inv}
-use Rattle.reader.specs.SizeLaws.{Takes, coded_takes, list_read, many_takes, many_length}
+use Rattle.reader.proofs.SizeLaws.{Takes, coded_takes, list_read, many_takes, many_length}
 use Rattle.sheet.specs.Decode.{field_of, method_of}
 use Rattle.sheet.specs.Encode.{encode_value, encode_field, encode_method}
 use Rattle.sheet.specs.Coded.{coded_field}
-use Rattle.sheet.specs.TypeCodes.{field_codes, method_codes}
+use Rattle.sheet.proofs.TypeCodes.{field_codes, method_codes}
 
 pub field_takes : Takes field_of 2
 unfolding encode_field encode_value

@@ -23,7 +23,7 @@ use Rattle.reader.specs.ValueLaws.{not_whole, value_got}
 use Rattle.sheet.specs.Module.{ValueType, basic, ref, dyn, first_ref}
 use Rattle.sheet.specs.Decode.{value_type}
 use Rattle.sheet.specs.Encode.{encode_value}
-use Rattle.sheet.specs.TypeCodes.{value_codes}
+use Rattle.sheet.proofs.TypeCodes.{value_codes}
 use Rattle.open_layout.specs.Opened.{module_in}
 use Rattle.open_sheet.specs.declared.Opened.{Opened}
 use Rattle.open_sheet.specs.Ready.{Opens}

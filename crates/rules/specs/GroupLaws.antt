@@ -12,7 +12,7 @@ use Rattle.sheet.specs.Module.{Module}
 use Rattle.host.specs.Host.{HostFn}
 use Rattle.types.specs.Types.{types_faults}
 use Rattle.sheet.specs.Editions.{most_of}
-use Rattle.sheet.specs.EditionLaws.{most_from_one}
+use Rattle.sheet.proofs.EditionLaws.{most_from_one}
 use Rattle.parents.specs.Parents.{parents_faults}
 use Rattle.spans.specs.Spans.{walk_faults}
 use Rattle.consts.specs.Consts.{most_deep, consts_faults}
@@ -21,7 +21,7 @@ use Rattle.funcs.specs.Funcs.{funcs_faults}
 use Rattle.code.specs.Code.{codes_faults}
 use Rattle.hooks.specs.Hooks.{hooks_faults, start_faults, exports_faults}
 use Rattle.load.specs.Load.{module_faults, faults_of}
-use Rattle.law_forest.specs.Accepted.{walk_complete}
+use Rattle.law_forest.proofs.AcceptedLaws.{walk_complete}
 use Rattle.open_sheet.specs.declared.Opened.{Opened}
 use Rattle.open_sheet.specs.Ready.{Ready}
 use Rattle.open_sheet.specs.ReadyLaws.{ready_below, imports_inside}

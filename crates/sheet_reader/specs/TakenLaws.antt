@@ -8,7 +8,7 @@ use Rattle.reader.specs.declared.Step.TheVariants as step
 use Rattle.reader.specs.Reader.{Got, broken, got, Reader, word, list_of}
 use Rattle.reader.specs.Step.{step_of}
 use Rattle.reader.specs.StepLaws.{word_read, word_none}
-use Rattle.reader.specs.LoopLaws.{Skips, skips_end, skips_next, skips_stop}
+use Rattle.reader.proofs.LoopLaws.{Skips, skips_end, skips_next, skips_stop}
 use Rattle.sheet_reader.specs.declared.Taken.{Taken}
 use Rattle.sheet_reader.specs.declared.Taken.TheVariants.{Word, Broken}
 use Rattle.sheet_reader.specs.Taken.{taken_of}

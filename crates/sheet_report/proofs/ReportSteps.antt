@@ -18,23 +18,23 @@ use Rattle.error.specs.declared.LoadError.{LoadError}
 use Rattle.error.specs.declared.Loaded.{Loaded}
 use Rattle.error.specs.declared.Loaded.TheVariants.{Accepted, Refused}
 use Rattle.sheet.specs.Module.{Module, TypeDef, no_module, coroutine, type_at, is_struct}
-use Rattle.sheet.specs.DecodedLaws.{decoded_within}
+use Rattle.sheet.proofs.DecodedTheorems.{decoded_within}
 use Rattle.sheet.specs.TypeLaws.{struct_known}
 use Rattle.sheet.specs.Editions.{most_of}
 use Rattle.writing.specs.Writing.{written}
 use Rattle.descends.specs.declared.FamilySize.TheVariants.{Size}
 use Rattle.descends.specs.Sizes.{size_in}
 use Rattle.load.specs.Load.{needed, fits, enough, long_enough, load, table_after, work_after}
-use Rattle.load.specs.KindLaws.{Links, accepted}
+use Rattle.load.proofs.KindLaws.{Links, accepted}
 use Rattle.families.specs.Families.{family_size, struct_count, struct_numbers}
 use Rattle.families.specs.Counted.{counted_of, structs_in}
 use Rattle.law_families.specs.FamilyLaws.{size_some, size_none}
 use Rattle.report_lines.specs.Report.{judged, module_or, counting, counted_module, family_line, structs_total, sizes_total}
 use Rattle.report_lines.specs.Reported.{Reports}
-use Rattle.report_lines.specs.ReportLaws.{refused_none}
+use Rattle.report_lines.proofs.ReportLaws.{refused_none}
 use Rattle.calls.specs.Calls.{Loads, Begins}
 use Rattle.family_calls.specs.FamilyCalls.{SizesRight}
-use Rattle.family_calls.specs.FamilyCallLaws.{ModuleRule, counted_rule, sizes_right}
+use Rattle.family_calls.proofs.FamilyCallLaws.{ModuleRule, counted_rule, sizes_right}
 use Rattle.sheet_report.specs.declared.FamilyLines.{FamilyLines}
 use Rattle.sheet_report.specs.Lines.{size_or0, count_or0, size_word, line_in, lines_in, LinesWritten}
 

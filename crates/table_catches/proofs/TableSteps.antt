@@ -12,11 +12,11 @@ use Rattle.lists.specs.Lists.{from, first_at}
 use Rattle.lists.specs.ListLaws.{length_concat_map, get_d_concat_map, length_from, map_agree}
 use Rattle.blocks.specs.Blocks.{words}
 use Rattle.blocks.specs.Frame.{first_words}
-use Rattle.blocks.specs.FirstWords.{first_words_at, length_first_words}
+use Rattle.blocks.proofs.FirstWords.{first_words_at, length_first_words}
 use Rattle.reader.specs.ReaderLaws.{stands_in, stands_at}
 use Rattle.sheet.specs.Module.{Handler}
 use Rattle.sheet.specs.Encode.{encode_handler, encode_inst}
-use Rattle.sheet.specs.FuncCodes.{handlers_codes, insts_codes}
+use Rattle.sheet.proofs.FuncCodes.{handlers_codes, insts_codes}
 use Rattle.code.specs.Code.{covers}
 use Rattle.region.specs.Region.{Off, Frame}
 use Rattle.region.specs.RegionLaws.{frame_then}

@@ -17,7 +17,7 @@ use Rattle.error.specs.Verdict.{verdict_of}
 use Rattle.reader.specs.Reader.{encode_list}
 use Rattle.sheet.specs.Module.{Hook, Module}
 use Rattle.sheet.specs.Coded.{coded_hook}
-use Rattle.sheet.specs.ModuleCodes.{hooks_codes}
+use Rattle.sheet.proofs.ModuleCodes.{hooks_codes}
 use Rattle.host.specs.Host.{HostFn}
 use Rattle.canon.specs.Canon.{canon_type}
 use Rattle.imports.specs.Params.{signature_faults}

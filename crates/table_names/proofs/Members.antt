@@ -10,7 +10,7 @@ use Rattle.lists.specs.Lists.{concat_map}
 use Rattle.lists.specs.ListLaws.{length_concat_map, get_d_concat_map}
 use Rattle.blocks.specs.Blocks.{words}
 use Rattle.blocks.specs.Frame.{first_words}
-use Rattle.blocks.specs.FirstWords.{length_first_words, first_words_at}
+use Rattle.blocks.proofs.FirstWords.{length_first_words, first_words_at}
 use Rattle.error.specs.declared.What.TheVariants.{Strings}
 use Rattle.law_faults.specs.Empty.{append_empty, range_empty, every}
 use Rattle.reader.specs.Reader.{Reader, list_of}
@@ -21,7 +21,7 @@ use Rattle.sheet.specs.Module.{dyn, Field, Method, Module}
 use Rattle.sheet.specs.Decode.{field_of, method_of}
 use Rattle.sheet.specs.Encode.{encode_value, encode_field, encode_method}
 use Rattle.sheet.specs.Coded.{coded_field}
-use Rattle.sheet.specs.TypeCodes.{field_codes, method_codes}
+use Rattle.sheet.proofs.TypeCodes.{field_codes, method_codes}
 use Rattle.types.specs.Types.{named_slots, string_faults, function_faults, method_faults}
 use Rattle.table_names.specs.Names.{named_fields, name_faults, methods_faults}
 

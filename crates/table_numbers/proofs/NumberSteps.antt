@@ -8,14 +8,14 @@ use Rattle.lists.specs.Lists.{concat_map}
 use Rattle.lists.specs.ListLaws.{length_concat_map}
 use Rattle.blocks.specs.Blocks.{words}
 use Rattle.blocks.specs.Frame.{first_words}
-use Rattle.blocks.specs.FirstWords.{length_first_words, first_words_at}
+use Rattle.blocks.proofs.FirstWords.{length_first_words, first_words_at}
 use Rattle.error.specs.declared.LoadErrorKind.{LoadErrorKind}
 use Rattle.error.specs.declared.What.TheVariants.{Types, Strings}
 use Rattle.error.specs.Answer.{in_range}
 use Rattle.law_faults.specs.Empty.{range_empty, every}
 use Rattle.reader.specs.Reader.{got, word, list_of, encode_words}
 use Rattle.reader.specs.ReaderLaws.{free, one_word, word_codes, words_codes, stands_in}
-use Rattle.reader.specs.ReadLaws.{read_at, listed_at}
+use Rattle.reader.proofs.ReadLaws.{read_at, listed_at}
 use Rattle.reader.specs.StepLaws.{word_read}
 use Rattle.reader.specs.Value.{Whole, value_of}
 use Rattle.reader.specs.ValueLaws.{whole_inv, value_got, list_within}

@@ -14,16 +14,16 @@ use Rattle.region.specs.Region.{Off, Frame}
 use Rattle.sheet.specs.Module.{TypeDef, Module, type_at, is_struct}
 use Rattle.open_layout.specs.Opened.{module_in}
 use Rattle.sheet.specs.Editions.{most_on_chain, most_of}
-use Rattle.sheet.specs.EditionLaws.{most_from_one}
+use Rattle.sheet.proofs.EditionLaws.{most_from_one}
 use Rattle.parents.specs.Parents.{parents_faults}
 use Rattle.spans.specs.Spans.{roots, under, order, span_of, spans}
 use Rattle.law_forest.specs.Entries.{is_struct_entry, struct_at, entry_out}
 use Rattle.law_forest.specs.Once.{ChainRule, once}
 use Rattle.law_forest.specs.Family.{Part, part_self, ready_root}
-use Rattle.law_forest.specs.Accepted.{chain_rule}
+use Rattle.law_forest.proofs.AcceptedLaws.{chain_rule}
 use Rattle.law_forest.specs.Lengths.{length_roots}
 use Rattle.table.specs.Table.{span_section, spans_of}
-use Rattle.table.specs.TableLaws.{span_at, span_section_length}
+use Rattle.table.proofs.TableLaws.{span_at, span_section_length}
 use Rattle.open_sheet.specs.declared.Opened.{Opened}
 use Rattle.open_sheet.specs.Ready.{Ready}
 use Rattle.open_sheet.specs.ReadyLaws.{ready_most}

@@ -15,7 +15,7 @@ use Rattle.spans.specs.Spans.{under, order, pre, post, children, span_of}
 use Rattle.law_forest.specs.Once.{order_short}
 use Rattle.law_forest.specs.Family.{part_fst, part_snd, part_length, Ready, child_of, ready_child, full_pos, pre_at, post_at}
 use Rattle.law_forest.specs.Lengths.{length_child, length_some}
-use Rattle.table.specs.TableLaws.{span_three}
+use Rattle.table.proofs.TableLaws.{span_three}
 use Rattle.open_sheet.specs.declared.Opened.{Opened}
 use Rattle.writing.specs.Writing.{written}
 use Rattle.table_spans.specs.Siblings.{in_list, members_from, first_from, Linked}

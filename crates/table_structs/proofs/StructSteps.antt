@@ -9,7 +9,7 @@ use Rattle.lists.specs.Lists.{concat_map}
 use Rattle.lists.specs.ListLaws.{length_concat_map}
 use Rattle.blocks.specs.Blocks.{words}
 use Rattle.blocks.specs.Frame.{first_words}
-use Rattle.blocks.specs.FirstWords.{first_words_at}
+use Rattle.blocks.proofs.FirstWords.{first_words_at}
 use Rattle.error.specs.declared.LoadErrorKind.{LoadErrorKind}
 use Rattle.law_faults.specs.Empty.{append_empty}
 use Rattle.reader.specs.Reader.{got, word, list_of, encode_list, encode_words}
@@ -21,7 +21,7 @@ use Rattle.sheet.specs.Module.{Field, Struct, struct, coroutine, Module}
 use Rattle.sheet.specs.Decode.{field_of, method_of, struct_type}
 use Rattle.sheet.specs.Encode.{encode_value, encode_field, encode_pair}
 use Rattle.sheet.specs.Coded.{coded_field}
-use Rattle.sheet.specs.TypeCodes.{field_codes}
+use Rattle.sheet.proofs.TypeCodes.{field_codes}
 use Rattle.canon.specs.Canon.{canon_word}
 use Rattle.types.specs.Types.{named_slots, value_faults, string_faults, method_faults, struct_faults, type_faults}
 use Rattle.open_layout.specs.Opened.{module_in}

@@ -6,11 +6,11 @@ use native.Mathlib.Omega.{arith}
 use lib.ListN.{length, get_or}
 use Rattle.blocks.specs.Blocks.{words}
 use Rattle.blocks.specs.Frame.{first_words}
-use Rattle.blocks.specs.FirstWords.{length_first_words, first_words_at}
+use Rattle.blocks.proofs.FirstWords.{length_first_words, first_words_at}
 use Rattle.law_faults.specs.Empty.{append_empty}
 use Rattle.reader.specs.Reader.{got, fail}
 use Rattle.reader.specs.ReaderLaws.{then_inv, stands_in}
-use Rattle.reader.specs.ReadLaws.{read_at}
+use Rattle.reader.proofs.ReadLaws.{read_at}
 use Rattle.reader.specs.StepLaws.{word_read}
 use Rattle.reader.specs.Value.{Whole, value_of}
 use Rattle.reader.specs.ValueLaws.{whole_inv, got_whole, value_got}
@@ -18,7 +18,7 @@ use Rattle.sheet.specs.Module.{ValueType, dyn, TypeDef, func, struct, cell, iter
 use Rattle.sheet.specs.Decode.{value_type, struct_type, of_one, of_two, type_bodies, type_def}
 use Rattle.sheet.specs.Encode.{encode_value, encode_type}
 use Rattle.sheet.specs.Coded.{coded_type}
-use Rattle.sheet.specs.TypeCodes.{value_codes, type_codes}
+use Rattle.sheet.proofs.TypeCodes.{value_codes, type_codes}
 use Rattle.canon.specs.Canon.{canon_word}
 use Rattle.types.specs.Types.{value_faults, type_faults}
 use Rattle.open_layout.specs.Opened.{module_in}

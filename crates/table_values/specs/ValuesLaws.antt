@@ -7,15 +7,15 @@ use Rattle.lists.specs.ListLaws.{length_concat_map, length_from, get_d_map_from,
 use Rattle.law_faults.specs.Empty.{append_empty, every}
 use Rattle.reader.specs.Reader.{got, Reader, word, list_of}
 use Rattle.reader.specs.ReaderLaws.{Codes, then_inv, word_codes}
-use Rattle.reader.specs.ReadLaws.{listed_at}
+use Rattle.reader.proofs.ReadLaws.{listed_at}
 use Rattle.reader.specs.Value.{Whole, value_of}
 use Rattle.reader.specs.ValueLaws.{whole_inv, got_whole, value_got}
 use Rattle.sheet.specs.Module.{ValueType, dyn, Field, Global}
 use Rattle.sheet.specs.Decode.{value_type, field_of, global_of}
 use Rattle.sheet.specs.Encode.{encode_value, encode_field, encode_global}
 use Rattle.sheet.specs.Coded.{coded_value, coded_field, coded_global}
-use Rattle.sheet.specs.TypeCodes.{value_codes, field_codes}
-use Rattle.sheet.specs.FuncCodes.{global_codes}
+use Rattle.sheet.proofs.TypeCodes.{value_codes, field_codes}
+use Rattle.sheet.proofs.FuncCodes.{global_codes}
 use Rattle.types.specs.Types.{value_faults}
 use Rattle.imports.specs.Imports.{init_faults, global_faults}
 use Rattle.open_layout.specs.Opened.{module_in}

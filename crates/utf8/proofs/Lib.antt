@@ -1,1 +1,4 @@
 pub mod Stepping
+pub mod Examples
+pub mod Grammar
+pub mod GrammarLaws

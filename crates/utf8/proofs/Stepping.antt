@@ -13,7 +13,7 @@ use Rattle.utf8.specs.declared.State.{State}
 use Rattle.utf8.specs.declared.State.TheVariants.{Done, Tail1, Tail2, Tail3, AfterE0, AfterED, AfterF0, AfterF4, Wrong}
 use Rattle.utf8.specs.Utf8.{Range, ◌to◌, chars, within, Place, wrong, due, begin, next, after, done}
 use Rattle.utf8.specs.State.{meaning, octets, ascii}
-use Rattle.utf8.specs.GrammarLaws.{begin_row}
+use Rattle.utf8.proofs.GrammarLaws.{begin_row}
 
 -- ── the first octet ──
 

@@ -3,7 +3,7 @@ use Prim.Native.Nat.{◌+◌, ◌-◌}
 use native.Mathlib.Omega.{arith}
 use Rattle.region.specs.Region.{part, word_at}
 use Rattle.blocks.specs.Frame.{first_words}
-use Rattle.open_canon.specs.Scan.{first_new, head_new, head_same, less_apart, more_apart}
+use Rattle.open_canon.proofs.ScanLaws.{first_new, head_new, head_same, less_apart, more_apart}
 use Rattle.open_canon.proofs.head_of.Goals as goal
 
 pub returns-then-p-eq0 : goal.returns-then-p-eq0

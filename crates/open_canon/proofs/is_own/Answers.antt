@@ -7,9 +7,9 @@ use native.Mathlib.Omega.{arith}
 use lib.Dec.{eqb}
 use Rattle.region.specs.Region.{part}
 use Rattle.blocks.specs.Frame.{first_words}
-use Rattle.blocks.specs.FirstWords.{length_first_words, first_words_at}
+use Rattle.blocks.proofs.FirstWords.{length_first_words, first_words_at}
 use Rattle.sorting.specs.Items.{item}
-use Rattle.sorting.specs.Edges.{item_none, item_some, ends}
+use Rattle.sorting.proofs.Edges.{item_none, item_some, ends}
 use Rattle.open_canon.specs.Numbers.{own_by}
 use Rattle.open_canon.proofs.is_own.Goals as goal
 

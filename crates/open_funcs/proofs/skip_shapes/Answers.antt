@@ -1,5 +1,5 @@
 use borrow.Author.Rules.{rules}
-use Rattle.reader.specs.LoopLaws.{skipping}
+use Rattle.reader.proofs.LoopLaws.{skipping}
 use Rattle.open_funcs.proofs.skip_shapes.Goals as goal
 
 pub word-left-requires : goal.word-left-requires

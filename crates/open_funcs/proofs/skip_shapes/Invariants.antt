@@ -1,5 +1,5 @@
 use Rattle.blocks.specs.Frame.{first_words}
-use Rattle.reader.specs.LoopLaws.{Skips}
+use Rattle.reader.proofs.LoopLaws.{Skips}
 use Rattle.reader.specs.Reader.{word, many, list_of}
 use Rattle.open_funcs.proofs.skip_shapes.Given as goal
 

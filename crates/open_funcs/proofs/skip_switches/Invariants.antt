@@ -1,5 +1,5 @@
 use Rattle.blocks.specs.Frame.{first_words}
-use Rattle.reader.specs.LoopLaws.{Skips}
+use Rattle.reader.proofs.LoopLaws.{Skips}
 use Rattle.sheet.specs.Decode.{switch_of}
 use Rattle.open_funcs.proofs.skip_switches.Given as goal
 

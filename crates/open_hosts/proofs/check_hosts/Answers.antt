@@ -1,4 +1,4 @@
-use Rattle.blocks.specs.FirstWords.{frame_few}
+use Rattle.blocks.proofs.FirstWords.{frame_few}
 use Rattle.open_hosts.proofs.ListSteps.{frame_next, frame_stop, broken_sorted}
 use borrow.Author.Rules.{rules}
 use Rattle.open_hosts.proofs.check_hosts.Goals as goal

@@ -1,5 +1,5 @@
 use Rattle.blocks.specs.Frame.{first_words}
-use Rattle.reader.specs.LoopLaws.{Skips}
+use Rattle.reader.proofs.LoopLaws.{Skips}
 use Rattle.sheet.specs.Decode.{type_def}
 use Rattle.open_types.proofs.skip_types.Given as goal
 

@@ -1,5 +1,5 @@
 use Rattle.blocks.specs.Frame.{first_words}
-use Rattle.reader.specs.LoopLaws.{Skips}
+use Rattle.reader.proofs.LoopLaws.{Skips}
 use Rattle.sheet.specs.Decode.{value_type}
 use Rattle.open_types.proofs.skip_values.Given as goal
 

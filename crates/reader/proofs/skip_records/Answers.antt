@@ -1,6 +1,6 @@
 use borrow.Author.Rules.{rules}
-use Rattle.reader.specs.LoopLaws.{list_of_end}
-use Rattle.reader.specs.RecordSteps.{records_next, records_short}
+use Rattle.reader.proofs.LoopLaws.{list_of_end}
+use Rattle.reader.proofs.RecordSteps.{records_next, records_short}
 use Rattle.reader.proofs.Records.{product_fits}
 use Rattle.reader.proofs.skip_records.Goals as goal
 

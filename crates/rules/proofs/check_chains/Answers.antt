@@ -1,5 +1,5 @@
 use borrow.Author.Rules.{rules}
-use Rattle.sheet.specs.EditionLaws.{most_small}
+use Rattle.sheet.proofs.EditionLaws.{most_small}
 use Rattle.rules.proofs.OrderSteps.{chains_judged}
 use Rattle.rules.proofs.check_chains.Goals as goal
 

@@ -1,5 +1,5 @@
 use borrow.Author.Rules.{rules}
-use Rattle.sheet.specs.EditionLaws.{most_first, most_second}
+use Rattle.sheet.proofs.EditionLaws.{most_first, most_second}
 use Rattle.sheet.proofs.most_on_chain.Goals as goal
 
 pub returns-then-edition-eq2 : goal.returns-then-edition-eq2

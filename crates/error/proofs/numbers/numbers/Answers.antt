@@ -1,5 +1,5 @@
 use borrow.Author.Rules.{rules}
-use Rattle.error.specs.NumbersLaws.{by_accepted, by_refused}
+use Rattle.error.proofs.NumbersLaws.{by_accepted, by_refused}
 use Rattle.error.proofs.numbers.numbers.Goals as goal
 
 pub returns-in-Accepted : goal.returns-in-Accepted

@@ -1,6 +1,6 @@
 use borrow.Author.Rules.{rules}
 use Rattle.error.specs.Answer.{kind_numbers}
-use Rattle.error.specs.NumbersLaws.{by_kind, payloads}
+use Rattle.error.proofs.NumbersLaws.{by_kind, payloads}
 use Rattle.error.proofs.numbers.refusal.Goals as goal
 
 pub returns-in-Decode : goal.returns-in-Decode

@@ -1,5 +1,5 @@
 use borrow.Author.Rules.{rules}
-use Rattle.reader.specs.LoopLaws.{skipping}
+use Rattle.reader.proofs.LoopLaws.{skipping}
 use Rattle.host.proofs.entries.skip_entries.Goals as goal
 
 pub word-left-requires : goal.word-left-requires

@@ -1,5 +1,5 @@
 use Rattle.blocks.specs.Frame.{first_words}
-use Rattle.reader.specs.LoopLaws.{Skips}
+use Rattle.reader.proofs.LoopLaws.{Skips}
 use Rattle.host.specs.Host.{host_fn}
 use Rattle.host.proofs.entries.skip_entries.Given as goal
 

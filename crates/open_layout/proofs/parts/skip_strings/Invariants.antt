@@ -1,5 +1,5 @@
 use Rattle.blocks.specs.Frame.{first_words}
-use Rattle.reader.specs.LoopLaws.{Skips}
+use Rattle.reader.proofs.LoopLaws.{Skips}
 use Rattle.reader.specs.Text.{string}
 use Rattle.open_layout.proofs.parts.skip_strings.Given as goal
 

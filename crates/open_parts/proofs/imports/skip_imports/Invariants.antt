@@ -1,5 +1,5 @@
 use Rattle.blocks.specs.Frame.{first_words}
-use Rattle.reader.specs.LoopLaws.{Skips}
+use Rattle.reader.proofs.LoopLaws.{Skips}
 use Rattle.sheet.specs.Decode.{import_of}
 use Rattle.open_parts.proofs.imports.skip_imports.Given as goal
 

@@ -1,0 +1,5 @@
+pub mod ArgumentCallLaws
+pub mod CallLaws
+pub mod Cheap
+pub mod EditionCallLaws
+pub mod ExportCallLaws
