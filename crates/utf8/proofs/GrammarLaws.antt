@@ -5,7 +5,7 @@ use mathlib.Core.List.Memᴰ
 use mathlib.Core.List.{List, [], ◌∷◌, ◌++◌, Memᴰ}
 use Rattle.lists.specs.ListLaws.{and_first, and_second}
 use Rattle.utf8.specs.Utf8.{Range, ◌to◌, chars, within, Place, wrong, due, begin, next, after, done, well_formed}
-use Rattle.utf8.proofs.Grammar.{Char, end, octet, Octets, char, ByGrammar}
+use Rattle.utf8.specs.Grammar.{Char, end, octet, Octets, char, ByGrammar}
 
 false_true : {C : Type 0} → false ≡ true → C
 false_true e = let z : ◌≡◌ {A = ℕ} 0 1 = cc in absurd (omega arith)

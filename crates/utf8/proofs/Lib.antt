@@ -1,4 +1,3 @@
 pub mod Stepping
 pub mod Examples
-pub mod Grammar
 pub mod GrammarLaws
