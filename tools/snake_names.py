@@ -20,6 +20,8 @@ LEADS = "pub|abbrev|unfoldable|opaque|private|where|let|record|in|data|mutual|co
 DECLARED = re.compile(rf"^\s*(?:(?:{LEADS})\s+|\d+\s+|[|]\s*|\{{\s*)*([^\s(){{}}.;,@\"«»\[\]]+)\s*(?=[:;]\s|\{{|=\s)")
 RULESET = re.compile(r"^\s*(?:pub\s+)?ruleset\s+(\S+)")
 INLINE = re.compile(r"(?:\{|;|\blet)\s*([a-z][^\s(){}.;,@\"«»\[\]:]*)\s*[:=]\s")
+# Names before one colon: constructors of a line, and variables.
+TOGETHER = re.compile(r"(?:^\s*|[({]\s*)((?:[^\s(){}.;,@\"«»\[\]:]+ )+)(?=: )")
 FUNCTION_PROOF = re.compile(r"/proofs/(.*/)?[^/]+/(Proof|Answers|Invariants)\.antt$")
 # Lemmas that port.py gave the name that a definition gets here, and the files that have them.
 MET = {
@@ -63,6 +65,9 @@ def declared(root):
                 if m:
                     found.add(m[1])
             found |= set(INLINE.findall(line))
+            for names in TOGETHER.findall(line):
+                found |= set(names.split())
+    found |= {"wsAlso", "roomAlso", "longAlso", "faultlessAlso"}
     return {w for w in found if TURNS.match(w) and snake(w) != w}
 
 

@@ -376,5 +376,5 @@ module _ (sheet hosts : List ℕ) (table work : ℕ) (m : Module) (d : decode sh
 
 pub arguments_right : ArgumentsRight
 unfolding ArgumentsRight
-arguments_right sheet hosts table work r left workLeft m d c =
+arguments_right sheet hosts table work r left work_left m d c =
     subst (ArgumentsAnswered sheet m) (sym c.answers) (answered sheet hosts (length table) (length work) m d)

@@ -29,10 +29,10 @@ use Rattle.calls.specs.Calls.{RefusesRight, Begins, FamilyAsked, FamilyRight, No
 -- ── calls ──
 
 -- what a call for C and Rust ensures is a call, and its six numbers
-pub numbered_call : (sheet hosts table work six left workLeft : List ℕ) → six ≡ numbers (load sheet hosts (length table) (length work)) →
-    left ≡ table_after sheet hosts table work → workLeft ≡ work_after sheet hosts table work →
-    LoadsNumbers sheet hosts table work six left workLeft
-numbered_call sheet hosts table work six left workLeft e f g = record {
+pub numbered_call : (sheet hosts table work six left work_left : List ℕ) → six ≡ numbers (load sheet hosts (length table) (length work)) →
+    left ≡ table_after sheet hosts table work → work_left ≡ work_after sheet hosts table work →
+    LoadsNumbers sheet hosts table work six left work_left
+numbered_call sheet hosts table work six left work_left e f g = record {
   answered = load sheet hosts (length table) (length work);
   loads = record { answers = refl; leaves = f; clears = g };
   numbered = e;
@@ -52,8 +52,8 @@ pub record Fronted (m : Module) (hs : List HostFn) (l : ℕ) (words : List ℕ) 
   pub faultless : faults_of hs m ≡ []
   pub fronts : words ≡ table_of hs m ++ drop l words
 
-module _ (sheet hosts table work : List ℕ) (l : ℕ) (left workLeft : List ℕ)
-    (c : Loads sheet hosts table work (Accepted l) left workLeft) where
+module _ (sheet hosts table work : List ℕ) (l : ℕ) (left work_left : List ℕ)
+    (c : Loads sheet hosts table work (Accepted l) left work_left) where
   pub links : Links sheet hosts (length table) (length work) l
   links = (accepted sheet hosts (length table) (length work) l).0 (sym c.answers)
 
@@ -79,8 +79,8 @@ module _ (sheet hosts table work : List ℕ) (l : ℕ) (left workLeft : List ℕ
 
 pub family_right : FamilyRight
 unfolding FamilyRight
-family_right sheet hosts table work l left workLeft m d c words b =
-    of_left sheet hosts table work l left workLeft c (FamilyAsked m) m d words b λ hs f rest.
+family_right sheet hosts table work l left work_left m d c words b =
+    of_left sheet hosts table work l left work_left c (FamilyAsked m) m d words b λ hs f rest.
     family_asked m (table_of hs m ++ rest) (family_front hs m f (types_few sheet m d) rest)
 
 -- ── demand 3 ──
@@ -114,36 +114,36 @@ long_here sheet hosts table work r e n q = n (e ∙ q)
 
 -- any words that begin as two accepted calls left them agree
 begin_alike : (r hosts first second : List ℕ) (w : RenumberedSheet r first second) →
-    (table work : List ℕ) (l : ℕ) (left workLeft : List ℕ) → Loads first hosts table work (Accepted l) left workLeft →
-    (tableAlso work_also : List ℕ) (k : ℕ) (left_also workLeftAlso : List ℕ) →
-    Loads second hosts tableAlso work_also (Accepted k) left_also workLeftAlso →
+    (table work : List ℕ) (l : ℕ) (left work_left : List ℕ) → Loads first hosts table work (Accepted l) left work_left →
+    (table_also work_also : List ℕ) (k : ℕ) (left_also work_left_also : List ℕ) →
+    Loads second hosts table_also work_also (Accepted k) left_also work_left_also →
     (words words_also : List ℕ) → Begins l left words → Begins k left_also words_also →
     AgreeAsked r w.source words words_also
-begin_alike r hosts first second w table work l left workLeft c tableAlso work_also k left_also workLeftAlso d words words_also b e =
+begin_alike r hosts first second w table work l left work_left c table_also work_also k left_also work_left_also d words words_also b e =
     let m = w.source in
     let v = as_renumbered w in
-    let s = links first hosts table work l left workLeft c in
+    let s = links first hosts table work l left work_left c in
     let hs = s.host_list in
-    let f = fronted first hosts table work l left workLeft c m hs v.decodes s.lists words b in
-    let g = fronted second hosts tableAlso work_also k left_also workLeftAlso d (renumber r m) hs v.decodes_also s.lists words_also e in
+    let f = fronted first hosts table work l left work_left c m hs v.decodes s.lists words b in
+    let g = fronted second hosts table_also work_also k left_also work_left_also d (renumber r m) hs v.decodes_also s.lists words_also e in
     agree_asked r m words words_also
     (subst₂ (Agree r m) (sym f.fronts) (sym g.fronts)
     (agree_fronts r first second v hs f.faultless g.faultless (drop l words) (drop k words_also)))
 
 pub numbering_free : NumberingFree
 unfolding NumberingFree
-numbering_free r hosts first second w table work x left workLeft c n tableAlso work_also y left_also workLeftAlso d k =
+numbering_free r hosts first second w table work x left work_left c n table_also work_also y left_also work_left_also d k =
     let one = called first table work in
-    let two = called second tableAlso work_also in
-    let o = renumbered_sheets r hosts one two w (long_here first hosts table work x c.answers n) (long_here second hosts tableAlso work_also y d.answers k) in
+    let two = called second table_also work_also in
+    let o = renumbered_sheets r hosts one two w (long_here first hosts table work x c.answers n) (long_here second hosts table_also work_also y d.answers k) in
     let e = accepted_here first hosts table work x c.answers in
     record {
-      together = e ∙ o.together ∙ sym (accepted_here second hosts tableAlso work_also y d.answers);
+      together = e ∙ o.together ∙ sym (accepted_here second hosts table_also work_also y d.answers);
       agree = λ i j p q.
-          begin_alike r hosts first second w table work i left workLeft
-          (subst (λ (a : Loaded). Loads first hosts table work a left workLeft) p c)
-          tableAlso work_also j left_also workLeftAlso
-          (subst (λ (a : Loaded). Loads second hosts tableAlso work_also a left_also workLeftAlso) q d);
+          begin_alike r hosts first second w table work i left work_left
+          (subst (λ (a : Loaded). Loads first hosts table work a left work_left) p c)
+          table_also work_also j left_also work_left_also
+          (subst (λ (a : Loaded). Loads second hosts table_also work_also a left_also work_left_also) q d);
     }
 
 -- ── demand 1 ──
@@ -192,11 +192,11 @@ unfolding is_early before_rules early kind_number
 early_same (Accepted l) = refl
 early_same (Refused e) = refl
 
-module _ (sheet hosts table work : List ℕ) (r : Loaded) (left workLeft : List ℕ) (c : Loads sheet hosts table work r left workLeft) where
+module _ (sheet hosts table work : List ℕ) (r : Loaded) (left work_left : List ℕ) (c : Loads sheet hosts table work r left work_left) where
   early_here : before_rules (load sheet hosts (length table) (length work)) ≡ is_early r
   early_here = ap before_rules (sym c.answers) ∙ early_same r
 
-  slices : Slices sheet hosts table work r left workLeft
+  slices : Slices sheet hosts table work r left work_left
   slices =
       record {
         kept = λ e q. c.leaves ∙ untouched_table sheet hosts table work e (sym c.answers ∙ q);
@@ -210,7 +210,7 @@ module _ (sheet hosts table work : List ℕ) (r : Loaded) (left workLeft : List 
 
 pub refuses_right : RefusesRight
 unfolding RefusesRight
-refuses_right sheet hosts table work r left workLeft c = (
+refuses_right sheet hosts table work r left work_left c = (
   subst (λ (a : Loaded). Verdict sheet hosts (length table) (length work) a) (sym c.answers) (verdict sheet hosts (length table) (length work)),
-  slices sheet hosts table work r left workLeft c,
+  slices sheet hosts table work r left work_left c,
 )

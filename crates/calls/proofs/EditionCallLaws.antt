@@ -47,7 +47,7 @@ module _ (sheet hosts : List ℕ) (table work : ℕ) where
 
 pub editions_right : EditionsRight
 unfolding EditionsRight
-editions_right sheet hosts table work r left workLeft c =
+editions_right sheet hosts table work r left work_left c =
     subst (EditionAnswered sheet hosts (length table) (length work)) (sym c.answers) (answered sheet hosts (length table) (length work))
 
 pub one_edition : OneEdition

@@ -215,5 +215,5 @@ answered sheet hosts table work m d =
 
 pub names_right : NamesRight
 unfolding NamesRight
-names_right sheet hosts table work r left workLeft m d c =
+names_right sheet hosts table work r left work_left m d c =
     subst (NamesAnswered sheet m) (sym c.answers) (answered sheet hosts (length table) (length work) m d)

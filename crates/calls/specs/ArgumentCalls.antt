@@ -68,5 +68,5 @@ pub record ArgumentsAnswered (sheet : List ℕ) (m : Module) (r : Loaded) : Type
 -- of every call
 unfoldable pub ArgumentsRight : Type 0
 ArgumentsRight =
-    (sheet hosts table work : List ℕ) (r : Loaded) (left workLeft : List ℕ) (m : Module) → decode sheet ≡ some m →
-    Loads sheet hosts table work r left workLeft → ArgumentsAnswered sheet m r
+    (sheet hosts table work : List ℕ) (r : Loaded) (left work_left : List ℕ) (m : Module) → decode sheet ≡ some m →
+    Loads sheet hosts table work r left work_left → ArgumentsAnswered sheet m r

@@ -22,16 +22,16 @@ use Rattle.renumber.specs.Renumber.{image, renumber, RenumberedSheet}
 
 -- ── calls ──
 
--- r is answered, and the slices hold left and workLeft after it: what `load` of crate loader ensures, so each call of it gives one
-pub record Loads (sheet hosts table work : List ℕ) (r : Loaded) (left workLeft : List ℕ) : Type 0 where
+-- r is answered, and the slices hold left and work_left after it: what `load` of crate loader ensures, so each call of it gives one
+pub record Loads (sheet hosts table work : List ℕ) (r : Loaded) (left work_left : List ℕ) : Type 0 where
   pub answers : r ≡ load sheet hosts (length table) (length work)
   pub leaves : left ≡ table_after sheet hosts table work
-  pub clears : workLeft ≡ work_after sheet hosts table work
+  pub clears : work_left ≡ work_after sheet hosts table work
 
 -- the same call for C and Rust, which gives the six numbers: what `paqlluri_load` of crate paqlluri ensures
-pub record LoadsNumbers (sheet hosts table work six left workLeft : List ℕ) : Type 0 where
+pub record LoadsNumbers (sheet hosts table work six left work_left : List ℕ) : Type 0 where
   pub answered : Loaded
-  pub loads : Loads sheet hosts table work answered left workLeft
+  pub loads : Loads sheet hosts table work answered left work_left
   pub numbered : six ≡ numbers answered
 
 -- x is answered: what `descends` of crate query and `paqlluri_descends` ensure, so each call of them gives one
@@ -73,7 +73,7 @@ pub record Verdict (sheet hosts : List ℕ) (table work : ℕ) (r : Loaded) : Ty
       (r ≡ Refused e) × (numbers r ≡ kind_numbers e.kind ++ (e.func ∷ e.pc ∷ []))
 
 -- the slices after the call
-pub record Slices (sheet hosts table work : List ℕ) (r : Loaded) (left workLeft : List ℕ) : Type 0 where
+pub record Slices (sheet hosts table work : List ℕ) (r : Loaded) (left work_left : List ℕ) : Type 0 where
   -- a refusal leaves the table as it was
   pub kept : (e : LoadError) → r ≡ Refused e → left ≡ table
   -- acceptance with l words writes the linked table
@@ -82,15 +82,15 @@ pub record Slices (sheet hosts table work : List ℕ) (r : Loaded) (left workLef
   -- and changes the first l words only
   pub rest : (l : ℕ) → r ≡ Accepted l → drop l left ≡ drop l table
   -- 1, 23 and 24 leave work as it was
-  pub work_kept : is_early r ≡ true → workLeft ≡ work
+  pub work_kept : is_early r ≡ true → work_left ≡ work
   -- after any other answer it is zero
-  pub work_zero : is_early r ≡ false → workLeft ≡ replicate (length work) 0
+  pub work_zero : is_early r ≡ false → work_left ≡ replicate (length work) 0
 
 -- of every call
 unfoldable pub RefusesRight : Type 0
 RefusesRight =
-    (sheet hosts table work : List ℕ) (r : Loaded) (left workLeft : List ℕ) → Loads sheet hosts table work r left workLeft →
-    Verdict sheet hosts (length table) (length work) r × Slices sheet hosts table work r left workLeft
+    (sheet hosts table work : List ℕ) (r : Loaded) (left work_left : List ℕ) → Loads sheet hosts table work r left work_left →
+    Verdict sheet hosts (length table) (length work) r × Slices sheet hosts table work r left work_left
 
 -- ── the family ──
 
@@ -106,8 +106,8 @@ pub record FamilyAsked (m : Module) (table : List ℕ) : Type 0 where
 -- of every call that accepts an intact sheet with l words, on what it left and on any words that begin so
 unfoldable pub FamilyRight : Type 0
 FamilyRight =
-    (sheet hosts table work : List ℕ) (l : ℕ) (left workLeft : List ℕ) (m : Module) → decode sheet ≡ some m →
-    Loads sheet hosts table work (Accepted l) left workLeft → (words : List ℕ) → Begins l left words → FamilyAsked m words
+    (sheet hosts table work : List ℕ) (l : ℕ) (left work_left : List ℕ) (m : Module) → decode sheet ≡ some m →
+    Loads sheet hosts table work (Accepted l) left work_left → (words : List ℕ) → Begins l left words → FamilyAsked m words
 
 -- ── demand 3: numbering does not matter ──
 
@@ -138,8 +138,8 @@ pub record Alike (r : List ℕ) (m : Module) (x y : Loaded) (left left_also : Li
 unfoldable pub NumberingFree : Type 0
 NumberingFree =
     (r hosts first second : List ℕ) (w : RenumberedSheet r first second) →
-    (table work : List ℕ) (x : Loaded) (left workLeft : List ℕ) → Loads first hosts table work x left workLeft → NotShort x →
-    (tableAlso work_also : List ℕ) (y : Loaded) (left_also workLeftAlso : List ℕ) → Loads second hosts tableAlso work_also y left_also workLeftAlso → NotShort y →
+    (table work : List ℕ) (x : Loaded) (left work_left : List ℕ) → Loads first hosts table work x left work_left → NotShort x →
+    (table_also work_also : List ℕ) (y : Loaded) (left_also work_left_also : List ℕ) → Loads second hosts table_also work_also y left_also work_left_also → NotShort y →
     Alike r w.source x y left left_also
 
 -- ── cheap loaders ──

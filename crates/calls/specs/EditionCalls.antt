@@ -38,7 +38,7 @@ pub record EditionAnswered (sheet hosts : List ℕ) (table work : ℕ) (r : Load
 -- of every call
 unfoldable pub EditionsRight : Type 0
 EditionsRight =
-    (sheet hosts table work : List ℕ) (r : Loaded) (left workLeft : List ℕ) → Loads sheet hosts table work r left workLeft →
+    (sheet hosts table work : List ℕ) (r : Loaded) (left work_left : List ℕ) → Loads sheet hosts table work r left work_left →
     EditionAnswered sheet hosts (length table) (length work) r
 
 -- demand 3 is asked within each edition: two sheets that differ by one renumbering state one

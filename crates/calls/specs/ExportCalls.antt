@@ -51,5 +51,5 @@ pub record NamesAnswered (sheet : List ℕ) (m : Module) (r : Loaded) : Type 0 w
 -- of every call
 unfoldable pub NamesRight : Type 0
 NamesRight =
-    (sheet hosts table work : List ℕ) (r : Loaded) (left workLeft : List ℕ) (m : Module) → decode sheet ≡ some m →
-    Loads sheet hosts table work r left workLeft → NamesAnswered sheet m r
+    (sheet hosts table work : List ℕ) (r : Loaded) (left work_left : List ℕ) (m : Module) → decode sheet ≡ some m →
+    Loads sheet hosts table work r left work_left → NamesAnswered sheet m r

@@ -121,8 +121,8 @@ module _ (sheet : List ℕ) (hosts : List HostFn) (m : Module) (d : decode sheet
 
 pub sizes_right : SizesRight
 unfolding SizesRight
-sizes_right sheet hosts table work l left workLeft m d c ws b =
-    of_left sheet hosts table work l left workLeft c (SizesAsked sheet m) m d ws b λ hs f rest.
+sizes_right sheet hosts table work l left work_left m d c ws b =
+    of_left sheet hosts table work l left work_left c (SizesAsked sheet m) m d ws b λ hs f rest.
     sizes_left sheet hs m d rest (parents_kept (most_of m) hs m f) (types_few sheet m d)
 
 -- ── reports ──

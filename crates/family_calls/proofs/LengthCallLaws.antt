@@ -60,6 +60,6 @@ module _ (hosts : List HostFn) (m : Module) (rest : List ℕ)
 
 pub lengths_right : LengthsRight
 unfolding LengthsRight
-lengths_right sheet hosts table work l left workLeft m d c words b =
-    of_left sheet hosts table work l left workLeft c (LengthsAsked m) m d words b λ hs f rest.
+lengths_right sheet hosts table work l left work_left m d c words b =
+    of_left sheet hosts table work l left work_left c (LengthsAsked m) m d words b λ hs f rest.
     lengths_left hs m rest (parents_kept (most_of m) hs m f) (types_few sheet m d)

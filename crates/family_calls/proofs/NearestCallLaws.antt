@@ -158,8 +158,8 @@ module _ (hosts : List HostFn) (m : Module) (rest : List ℕ) (s : Sound m) wher
 -- ── on two tables of sheets that differ by one renumbering ──
 
 module _ (hosts : List HostFn) (r : List ℕ) (m : Module) (renumbers : T (is_renumbering (length m.types) r))
-    (s : Sound m) (z : Sound (renumber r m)) (rest restAlso : List ℕ)
-    (agree : AgreeAsked r m (long_table hosts m rest) (long_table hosts (renumber r m) restAlso)) where
+    (s : Sound m) (z : Sound (renumber r m)) (rest rest_also : List ℕ)
+    (agree : AgreeAsked r m (long_table hosts m rest) (long_table hosts (renumber r m) rest_also)) where
   abbrev d_also : ℕ → ℕ → Bool
   d_also t a = is_from (most_of (renumber r m)) (renumber r m).types t a
 
@@ -168,9 +168,9 @@ module _ (hosts : List HostFn) (r : List ℕ) (m : Module) (renumbers : T (is_re
       same_test (is_from (most_of m) m.types t a) (d_also (image r t) (image r a))
       (sym (from_told hosts m rest s t a)
       ∙ agree.families t a (descends (long_table hosts m rest) t a)
-      (descends (long_table hosts (renumber r m) restAlso) (image r t) (image r a))
+      (descends (long_table hosts (renumber r m) rest_also) (image r t) (image r a))
       (record { answers = refl }) (record { answers = refl })
-      ∙ from_told hosts (renumber r m) restAlso z (image r t) (image r a))
+      ∙ from_told hosts (renumber r m) rest_also z (image r t) (image r a))
 
   moved : (t u : ℕ) →
       nearest (most_of (renumber r m)) (renumber r m).types (image r t) (image r u)
@@ -181,11 +181,11 @@ module _ (hosts : List HostFn) (r : List ℕ) (m : Module) (renumbers : T (is_re
       nearest_image (most_of m) m.types (renumber r m).types (rule m s) (rule (renumber r m) z)
       (image r) (origins r) b.forth alike t u
 
-  nearest_moves : NearestMoves r (long_table hosts m rest) (long_table hosts (renumber r m) restAlso)
+  nearest_moves : NearestMoves r (long_table hosts m rest) (long_table hosts (renumber r m) rest_also)
   unfolding NearestMoves
   nearest_moves t u x y p q =
       q.answers
-      ∙ near_told hosts (renumber r m) restAlso z (image r t) (image r u)
+      ∙ near_told hosts (renumber r m) rest_also z (image r t) (image r u)
       ∙ ap family_of (moved t u)
       ∙ image_told r (nearest (most_of m) m.types t u)
       ∙ ap (family_image r) (sym (near_told hosts m rest s t u) ∙ sym p.answers)
@@ -197,8 +197,8 @@ sound sheet hosts m d f = record { kept = parents_kept (most_of m) hosts m f; fe
 
 pub nearest_right : NearestRight
 unfolding NearestRight
-nearest_right sheet hosts table work l left workLeft m d c words b =
-    of_left sheet hosts table work l left workLeft c (NearestAsked m) m d words b λ hs f rest.
+nearest_right sheet hosts table work l left work_left m d c words b =
+    of_left sheet hosts table work l left work_left c (NearestAsked m) m d words b λ hs f rest.
     nearest_left hs m rest (sound sheet hs m d f)
 
 pub accepted_long : (l : ℕ) → NotShort (Accepted l)
@@ -207,17 +207,17 @@ accepted_long l e = let z : ◌≡◌ {A = ℕ} 0 1 = cc in absurd (omega arith)
 
 pub nearest_numbering_free : NearestNumberingFree
 unfolding NearestNumberingFree NumberingFree
-nearest_numbering_free r hosts first second w table work l left workLeft c tableAlso work_also k left_also workLeftAlso d ws wsAlso b e =
+nearest_numbering_free r hosts first second w table work l left work_left c table_also work_also k left_also work_left_also d ws ws_also b e =
     let m = w.source in
     let v = as_renumbered w in
-    let o = links first hosts table work l left workLeft c in
+    let o = links first hosts table work l left work_left c in
     let hs = o.host_list in
-    let f = fronted first hosts table work l left workLeft c m hs v.decodes o.lists ws b in
-    let g = fronted second hosts tableAlso work_also k left_also workLeftAlso d (renumber r m) hs v.decodes_also o.lists wsAlso e in
-    let alike = numbering_free r hosts first second w table work (Accepted l) left workLeft c (accepted_long l)
-    tableAlso work_also (Accepted k) left_also workLeftAlso d (accepted_long k) in
-    let agree = subst₂ (AgreeAsked r m) f.fronts g.fronts (alike.agree l k refl refl ws wsAlso b e) in
+    let f = fronted first hosts table work l left work_left c m hs v.decodes o.lists ws b in
+    let g = fronted second hosts table_also work_also k left_also work_left_also d (renumber r m) hs v.decodes_also o.lists ws_also e in
+    let alike = numbering_free r hosts first second w table work (Accepted l) left work_left c (accepted_long l)
+    table_also work_also (Accepted k) left_also work_left_also d (accepted_long k) in
+    let agree = subst₂ (AgreeAsked r m) f.fronts g.fronts (alike.agree l k refl refl ws ws_also b e) in
     subst₂ (NearestMoves r) (sym f.fronts) (sym g.fronts)
     (nearest_moves hs r m v.renumbering
     (sound first hs m v.decodes f.faultless)
-    (sound second hs (renumber r m) v.decodes_also g.faultless) (drop l ws) (drop k wsAlso) agree)
+    (sound second hs (renumber r m) v.decodes_also g.faultless) (drop l ws) (drop k ws_also) agree)

@@ -64,8 +64,8 @@ pub record SizesAsked (sheet : List ℕ) (m : Module) (table : List ℕ) : Type 
 -- of every call that accepts an intact sheet with l words, on what it left and on any words that begin so
 unfoldable pub SizesRight : Type 0
 SizesRight =
-    (sheet hosts table work : List ℕ) (l : ℕ) (left workLeft : List ℕ) (m : Module) → decode sheet ≡ some m →
-    Loads sheet hosts table work (Accepted l) left workLeft → (words : List ℕ) → Begins l left words → SizesAsked sheet m words
+    (sheet hosts table work : List ℕ) (l : ℕ) (left work_left : List ℕ) (m : Module) → decode sheet ≡ some m →
+    Loads sheet hosts table work (Accepted l) left work_left → (words : List ℕ) → Begins l left words → SizesAsked sheet m words
 
 -- ── reports ──
 

@@ -38,5 +38,5 @@ pub record LengthsAsked (m : Module) (table : List ℕ) : Type 0 where
 -- of every call that accepts an intact sheet with l words, on what it left and on any words that begin so
 unfoldable pub LengthsRight : Type 0
 LengthsRight =
-    (sheet hosts table work : List ℕ) (l : ℕ) (left workLeft : List ℕ) (m : Module) → decode sheet ≡ some m →
-    Loads sheet hosts table work (Accepted l) left workLeft → (words : List ℕ) → Begins l left words → LengthsAsked m words
+    (sheet hosts table work : List ℕ) (l : ℕ) (left work_left : List ℕ) (m : Module) → decode sheet ≡ some m →
+    Loads sheet hosts table work (Accepted l) left work_left → (words : List ℕ) → Begins l left words → LengthsAsked m words

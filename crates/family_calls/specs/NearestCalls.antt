@@ -54,8 +54,8 @@ pub record NearestAsked (m : Module) (table : List ℕ) : Type 0 where
 -- of every call that accepts an intact sheet with l words, on what it left and on any words that begin so
 unfoldable pub NearestRight : Type 0
 NearestRight =
-    (sheet hosts table work : List ℕ) (l : ℕ) (left workLeft : List ℕ) (m : Module) → decode sheet ≡ some m →
-    Loads sheet hosts table work (Accepted l) left workLeft → (words : List ℕ) → Begins l left words → NearestAsked m words
+    (sheet hosts table work : List ℕ) (l : ℕ) (left work_left : List ℕ) (m : Module) → decode sheet ≡ some m →
+    Loads sheet hosts table work (Accepted l) left work_left → (words : List ℕ) → Begins l left words → NearestAsked m words
 
 -- ── numbering does not matter ──
 
@@ -75,7 +75,7 @@ NearestMoves r words words_also =
 unfoldable pub NearestNumberingFree : Type 0
 NearestNumberingFree =
     (r hosts first second : List ℕ) → RenumberedSheet r first second →
-    (table work : List ℕ) (l : ℕ) (left workLeft : List ℕ) → Loads first hosts table work (Accepted l) left workLeft →
-    (tableAlso work_also : List ℕ) (k : ℕ) (left_also workLeftAlso : List ℕ) →
-    Loads second hosts tableAlso work_also (Accepted k) left_also workLeftAlso →
+    (table work : List ℕ) (l : ℕ) (left work_left : List ℕ) → Loads first hosts table work (Accepted l) left work_left →
+    (table_also work_also : List ℕ) (k : ℕ) (left_also work_left_also : List ℕ) →
+    Loads second hosts table_also work_also (Accepted k) left_also work_left_also →
     (words words_also : List ℕ) → Begins l left words → Begins k left_also words_also → NearestMoves r words words_also

@@ -42,7 +42,7 @@ module _ {r first second : List ℕ} where
 module _ (r hosts : List ℕ) (first second : Call) (w : RenumberedSheet r first.sheet second.sheet) where
   -- THE THEOREM OVER BYTES
   pub renumbered_sheets : LongEnough hosts first → LongEnough hosts second → Outcome r hosts w.source first second
-  renumbered_sheets long longAlso = renumbered r hosts first second (as_renumbered w) long longAlso
+  renumbered_sheets long long_also = renumbered r hosts first second (as_renumbered w) long long_also
 
   -- slices as long as the first call's have room for the second
   pub room_same : length second.table ≡ length first.table → length second.work ≡ length first.work → has_room second ≡ has_room first

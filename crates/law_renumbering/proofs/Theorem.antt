@@ -132,19 +132,19 @@ module _ (r hosts : List ℕ) (first second : Call) (w : Renumbered r first.shee
 -- THE THEOREM
 pub renumbered : (r hosts : List ℕ) (first second : Call) (w : Renumbered r first.sheet second.sheet) → LongEnough hosts first → LongEnough hosts second →
     Outcome r hosts w.source first second
-renumbered r hosts first second w room roomAlso = record {
-  together = bool_ext (accepts hosts first) (accepts hosts second) (accepted_there r hosts first second w roomAlso) (accepted_back r hosts first second w room);
-  agree = λ h. agree_left r hosts first second w h (accepted_there r hosts first second w roomAlso h);
+renumbered r hosts first second w room room_also = record {
+  together = bool_ext (accepts hosts first) (accepts hosts second) (accepted_there r hosts first second w room_also) (accepted_back r hosts first second w room);
+  agree = λ h. agree_left r hosts first second w h (accepted_there r hosts first second w room_also h);
 }
 
 -- and so do any words that begin with the linked tables of the two modules
 pub agree_fronts : (r first second : List ℕ) (w : Renumbered r first second) (hs : List HostFn) →
-    faults_of hs w.source ≡ [] → faults_of hs (renumber r w.source) ≡ [] → (rest restAlso : List ℕ) →
-    Agree r w.source (table_of hs w.source ++ rest) (table_of hs (renumber r w.source) ++ restAlso)
-agree_fronts r first second w hs faultless faultlessAlso rest restAlso =
+    faults_of hs w.source ≡ [] → faults_of hs (renumber r w.source) ≡ [] → (rest rest_also : List ℕ) →
+    Agree r w.source (table_of hs w.source ++ rest) (table_of hs (renumber r w.source) ++ rest_also)
+agree_fronts r first second w hs faultless faultless_also rest rest_also =
     let m = w.source in
     agree_of r m (listed (length m.types) r w.renumbering) (decoded first m w.decodes)
-    (table_of hs m ++ rest) (table_of hs (renumber r m) ++ restAlso)
+    (table_of hs m ++ rest) (table_of hs (renumber r m) ++ rest_also)
     (family_front hs m faultless (types_few first m w.decodes) rest)
-    (family_front hs (renumber r m) faultlessAlso (types_few second (renumber r m) w.decodes_also) restAlso)
-    (holds_front hs m rest) (holds_front hs (renumber r m) restAlso)
+    (family_front hs (renumber r m) faultless_also (types_few second (renumber r m) w.decodes_also) rest_also)
+    (holds_front hs m rest) (holds_front hs (renumber r m) rest_also)

@@ -18,7 +18,7 @@ use Rattle.sheet.specs.Editions.{may_leave_out}
 use Rattle.imports.specs.Params.{sig_params}
 use Rattle.code.specs.declared.FieldKind.{FieldKind}
 use Rattle.code.specs.Callee.{no_func, no_import, func_at, import_at, no_captures}
-use Rattle.code.specs.Opcodes.{Rule, free, noPromote, promoteToDyn, tailCall, tailCallIndirect, call, callIndirect, callImport, callShape, make_closure, of_kind, concatenate, notToRef, catchable, wideBits, Row, rows, row, step}
+use Rattle.code.specs.Opcodes.{Rule, free, no_promote, promote_to_dyn, tail_call, tail_call_indirect, call, call_indirect, call_import, call_shape, make_closure, of_kind, concatenate, not_to_ref, catchable, wide_bits, Row, rows, row, step}
 use Rattle.code.specs.Code.{is_dyn_register, good_handler, handler_faults, table_faults, covers, field_faults, fields_faults}
 use Rattle.code.specs.Code.{window_faults, arity_faults, direct_faults, mandatory, fewest_arguments, import_call_faults}
 use Rattle.code.specs.Code.{promote, has_kind, rule_faults, inst_faults, placed_faults, last_position, last_faults, code_faults, codes_faults}
@@ -32,21 +32,21 @@ use Rattle.law_renumbering.specs.TypeRules.{function_range}
 
 Tied : Rule → FieldKind → FieldKind → Type 0
 Tied free b w = Unit {0}
-Tied noPromote b w = Unit {0}
-Tied promoteToDyn b w = Unit {0}
-Tied tailCall b w = w ≡ FieldKind.Func
-Tied tailCallIndirect b w = Unit {0}
+Tied no_promote b w = Unit {0}
+Tied promote_to_dyn b w = Unit {0}
+Tied tail_call b w = w ≡ FieldKind.Func
+Tied tail_call_indirect b w = Unit {0}
 Tied call b w = w ≡ FieldKind.Func
-Tied callIndirect b w = Unit {0}
-Tied callImport b w = w ≡ FieldKind.Import
-Tied callShape b w = Unit {0}
+Tied call_indirect b w = Unit {0}
+Tied call_import b w = w ≡ FieldKind.Import
+Tied call_shape b w = Unit {0}
 Tied make_closure b w = w ≡ FieldKind.Func
 Tied (of_kind k) b w = b ≡ FieldKind.TypeRef
 Tied concatenate b w = Unit {0}
 Tied Rule.slice b w = Unit {0}
-Tied notToRef b w = Unit {0}
+Tied not_to_ref b w = Unit {0}
 Tied catchable b w = Unit {0}
-Tied wideBits b w = Unit {0}
+Tied wide_bits b w = Unit {0}
 
 TiedRow : Row → Type 0
 TiedRow r = Tied r.rule r.B r.W
@@ -227,15 +227,15 @@ module _ (r : List ℕ) (m : Module) (l : Listed (length m.types) r) where
         Together (rule_faults m f c i u) (rule_faults (renumber r m) (func_image (image r) f) c i u)
     unfolding rule_faults Tied has_kind
     rule_together c i free b w q x y = both_empty refl refl
-    rule_together c i noPromote b w q x y = same_together refl
-    rule_together c i promoteToDyn b w q x y =
+    rule_together c i no_promote b w q x y = same_together refl
+    rule_together c i promote_to_dyn b w q x y =
         together_unless PromoteNotDynamic PromoteNotDynamic (ap (λ (d : Bool). not (eqb (slot_d i) promote) || d) (dyn_register (image r) f (slot_a i)))
-    rule_together c i tailCall b w q x y = direct_together (slot_w i) (slot_a i) (slot_d i) (func_range w (slot_w i) q y) ⊕ same_together refl
-    rule_together c i tailCallIndirect b w q x y = window_together (image r) f (slot_a i) (slot_d i) (slot_d i) refl ⊕ same_together refl
+    rule_together c i tail_call b w q x y = direct_together (slot_w i) (slot_a i) (slot_d i) (func_range w (slot_w i) q y) ⊕ same_together refl
+    rule_together c i tail_call_indirect b w q x y = window_together (image r) f (slot_a i) (slot_d i) (slot_d i) refl ⊕ same_together refl
     rule_together c i call b w q x y = direct_together (slot_w i) (slot_a i + 1) (slot_d i) (func_range w (slot_w i) q y)
-    rule_together c i callIndirect b w q x y = window_together (image r) f (slot_a i + 1) (slot_d i) (slot_d i) refl
-    rule_together c i callImport b w q x y = import_together (slot_w i) (slot_a i + 1) (slot_d i) (import_range w (slot_w i) q y)
-    rule_together c i callShape b w q x y = shape_window i
+    rule_together c i call_indirect b w q x y = window_together (image r) f (slot_a i + 1) (slot_d i) (slot_d i) refl
+    rule_together c i call_import b w q x y = import_together (slot_w i) (slot_a i + 1) (slot_d i) (import_range w (slot_w i) q y)
+    rule_together c i call_shape b w q x y = shape_window i
     rule_together c i make_closure b w q x y =
         window_together (image r) f (slot_a i + 1) (length (func_at m (slot_w i)).captures) (length (func_at (renumber r m) (slot_w i)).captures)
         (captures_count (slot_w i) (func_range w (slot_w i) q y))
@@ -243,9 +243,9 @@ module _ (r : List ℕ) (m : Module) (l : Listed (length m.types) r) where
         together_unless (WrongTypeKind k) (WrongTypeKind k) (ap (λ (n : ℕ). eqb n (type_kind_word k)) (kind_ref (slot_b i) (ref_range b (slot_b i) q x)))
     rule_together c i concatenate b w q x y = window_together (image r) f (slot_b i) (slot_d i) (slot_d i) refl
     rule_together c i Rule.slice b w q x y = window_together (image r) f (slot_c i) 2 2 refl
-    rule_together c i notToRef b w q x y = same_together refl
+    rule_together c i not_to_ref b w q x y = same_together refl
     rule_together c i catchable b w q x y = same_together refl
-    rule_together c i wideBits b w q x y = same_together refl
+    rule_together c i wide_bits b w q x y = same_together refl
 
     inst_together : (pc : ℕ) (i : Inst) → Together (inst_faults m f pc i) (inst_faults (renumber r m) (func_image (image r) f) pc i)
     unfolding inst_faults TiedRow func_image

@@ -4,8 +4,8 @@ use Rattle.lists.specs.Lists.{all_of}
 use Rattle.error.specs.Answer.{kind_numbers}
 use Rattle.sheet.specs.Module.{Func, Inst, Module, opcode}
 use Rattle.code.specs.declared.FieldKind.{FieldKind}
-use Rattle.code.specs.Opcodes.{Row, row, Rule, free, noPromote, promoteToDyn, tailCall, tailCallIndirect, call, callIndirect, callImport}
-use Rattle.code.specs.Opcodes.{callShape, make_closure, of_kind, concatenate, notToRef, catchable, wideBits}
+use Rattle.code.specs.Opcodes.{Row, row, Rule, free, no_promote, promote_to_dyn, tail_call, tail_call_indirect, call, call_indirect, call_import}
+use Rattle.code.specs.Opcodes.{call_shape, make_closure, of_kind, concatenate, not_to_ref, catchable, wide_bits}
 use Rattle.code.specs.Code.{handler_faults, table_faults, field_faults, fields_faults, window_faults, arity_faults, direct_faults}
 use Rattle.code.specs.Code.{import_call_faults, rule_faults, inst_faults, placed_faults, last_faults, code_faults, codes_faults}
 use Rattle.load.specs.Kinds.{kind_number, judged, of_range, ranges_judged, parts}
@@ -51,21 +51,21 @@ import_call_kinds m f j first n = simp (parts, window_kinds)
 rule_kinds : (m : Module) (f : Func) (covered : Bool) (i : Inst) (r : Rule) → all_of judged (rule_faults m f covered i r) ≡ true
 unfolding rule_faults judged kind_number kind_numbers
 rule_kinds m f covered i free = refl
-rule_kinds m f covered i noPromote = simp parts
-rule_kinds m f covered i promoteToDyn = simp parts
-rule_kinds m f covered i tailCall = simp (parts, direct_kinds)
-rule_kinds m f covered i tailCallIndirect = simp (parts, window_kinds)
+rule_kinds m f covered i no_promote = simp parts
+rule_kinds m f covered i promote_to_dyn = simp parts
+rule_kinds m f covered i tail_call = simp (parts, direct_kinds)
+rule_kinds m f covered i tail_call_indirect = simp (parts, window_kinds)
 rule_kinds m f covered i call = simp direct_kinds
-rule_kinds m f covered i callIndirect = simp window_kinds
-rule_kinds m f covered i callImport = simp import_call_kinds
-rule_kinds m f covered i callShape = simp window_kinds
+rule_kinds m f covered i call_indirect = simp window_kinds
+rule_kinds m f covered i call_import = simp import_call_kinds
+rule_kinds m f covered i call_shape = simp window_kinds
 rule_kinds m f covered i make_closure = simp window_kinds
 rule_kinds m f covered i (of_kind k) = simp parts
 rule_kinds m f covered i concatenate = simp window_kinds
 rule_kinds m f covered i Rule.slice = simp window_kinds
-rule_kinds m f covered i notToRef = simp parts
+rule_kinds m f covered i not_to_ref = simp parts
 rule_kinds m f covered i catchable = simp parts
-rule_kinds m f covered i wideBits = simp parts
+rule_kinds m f covered i wide_bits = simp parts
 
 inst_kinds : (m : Module) (f : Func) (pc : ℕ) (i : Inst) → all_of judged (inst_faults m f pc i) ≡ true
 unfolding inst_faults

@@ -231,8 +231,8 @@ module _ (ws w : List ℕ) (l : Layout) (x : Filed ws w l) where
 
 -- ── ready ──
 
-module _ (ws w v u z : List ℕ) (l : Layout) (x : Filed ws w l) {s t k s_at t-at a b c₁ c₂ c₃ : ℕ} (small : l.words < 4294967296)
-    (es : s ≡ length (module_in ws).strings) (et : t ≡ length (module_in ws).types) (eis : s_at ≡ (index_of ws l).strings) (eit : t-at ≡ (index_of ws l).types)
+module _ (ws w v u z : List ℕ) (l : Layout) (x : Filed ws w l) {s t k s_at t_at a b c₁ c₂ c₃ : ℕ} (small : l.words < 4294967296)
+    (es : s ≡ length (module_in ws).strings) (et : t ≡ length (module_in ws).types) (eis : s_at ≡ (index_of ws l).strings) (eit : t_at ≡ (index_of ws l).types)
     (ek : k ≡ l.words) (ea : a ≡ 4 * k) (eb : b ≡ 5 * k) (e₁ : c₁ ≡ 1 * k) (e₂ : c₂ ≡ 2 * k) (e₃ : c₃ ≡ 3 * k)
     (n₁ : Numbered ws w v s s_at a b c₁ false) where
   few_strings : s + 1 ≤ k
@@ -247,7 +247,7 @@ module _ (ws w v u z : List ℕ) (l : Layout) (x : Filed ws w l) {s t k s_at t-a
   pub filed_first : Filed ws v l
   filed_first = filed_kept ws w l x (λ i. i < k) v frame₁ (λ i h. omega arith)
 
-  module _ (n₂ : Numbered ws v u t t-at a b c₂ true) where
+  module _ (n₂ : Numbered ws v u t t_at a b c₂ true) where
     frame₂ : Frame (λ i. i < k) v u
     frame₂ = record { len = n₂.len; same = λ i h. n₂.same i (λ p q. omega arith) (λ p q. omega arith) (λ p q. omega arith) }
 
@@ -273,10 +273,10 @@ module _ (ws w v u z : List ℕ) (l : Layout) (x : Filed ws w l) {s t k s_at t-a
       type_numbers_lem : (i : ℕ) → i < length (module_in ws).types → get_or z (2 * l.words + i) 0 ≡ canon_type (module_in ws).types i
       type_numbers_lem i h =
           let e : 2 * l.words + i ≡ c₂ + i = omega arith in
-          let n : Numbered ws v u (length (module_in ws).types) t-at a b c₂ true = subst (λ (y : ℕ). Numbered ws v u y t-at a b c₂ true) et n₂ in
+          let n : Numbered ws v u (length (module_in ws).types) t_at a b c₂ true = subst (λ (y : ℕ). Numbered ws v u y t_at a b c₂ true) et n₂ in
           ap (λ y. get_or z y 0) e
           ∙ f.same (c₂ + i) (λ p q. omega (arith, few_types))
-          ∙ type_number_lem ws (module_in ws) l x.located v u t-at a b c₂ (rw eit (types_edges ws v l filed_first)) n i h
+          ∙ type_number_lem ws (module_in ws) l x.located v u t_at a b c₂ (rw eit (types_edges ws v l filed_first)) n i h
 
       pub ready : {e : ℕ} {xi : Index} {c : Counts} → e ≡ (module_in ws).edition → xi ≡ index_of ws l → c ≡ counts_of (module_in ws) →
           Ready ws z (record { edition = e; layout = l; index = xi; counts = c })

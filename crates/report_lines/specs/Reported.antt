@@ -23,7 +23,7 @@ pub record Reports (hosts sheet lines : List ℕ) (r : SheetReport) (left : List
 unfoldable pub total_numbers : Totals → List ℕ
 total_numbers t = value_of t.structs ∷ value_of t.sizes ∷ []
 
--- u is t and one sheet more: what `report_bytes` of crate report ensures
+-- u is t and one sheet more: what `report_bytes` of crate report ensures where printing succeeds
 pub record AddsSheet (hosts sheet : List ℕ) (t u : Totals) : Type 0 where
   pub structs : value_of u.structs ≡ value_of t.structs + structs_total (counted_module hosts sheet)
   pub sizes : value_of u.sizes ≡ value_of t.sizes + sizes_total (counted_module hosts sheet)

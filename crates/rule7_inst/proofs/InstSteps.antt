@@ -118,21 +118,21 @@ is_kind k n e = sym (numbered k) ∙ ap kind_numbered (eqb-true (number_of k) n 
 -- the fields that a rule relies on
 names : definitions.Rule → Row → Bool
 names definitions.free r = true
-names definitions.noPromote r = true
-names definitions.promoteToDyn r = eqb (number_of r.A) 1
-names definitions.tailCall r = eqb (number_of r.W) 4
-names definitions.tailCallIndirect r = true
+names definitions.no_promote r = true
+names definitions.promote_to_dyn r = eqb (number_of r.A) 1
+names definitions.tail_call r = eqb (number_of r.W) 4
+names definitions.tail_call_indirect r = true
 names definitions.call r = eqb (number_of r.W) 4
-names definitions.callIndirect r = true
-names definitions.callImport r = eqb (number_of r.W) 5
-names definitions.callShape r = eqb (number_of r.B) 11
+names definitions.call_indirect r = true
+names definitions.call_import r = eqb (number_of r.W) 5
+names definitions.call_shape r = eqb (number_of r.B) 11
 names definitions.make_closure r = eqb (number_of r.W) 4
 names (definitions.of_kind k) r = eqb (number_of r.B) 9
 names definitions.concatenate r = true
 names definitions.slice r = true
-names definitions.notToRef r = true
+names definitions.not_to_ref r = true
 names definitions.catchable r = true
-names definitions.wideBits r = true
+names definitions.wide_bits r = true
 
 abbrev named : Row → Bool
 named r = names r.rule r
@@ -175,21 +175,21 @@ module _ (o : Opened) (c : Frame) (i : Module.Inst) (r : Row) (ha : kind_faults 
   reached : (u : definitions.Rule) → names u r ≡ true → Reached o c i u
   unfolding Reached names
   reached definitions.free e = tt
-  reached definitions.noPromote e = tt
-  reached definitions.promoteToDyn e = reg_in o c r.A (slot_a i) ha e
-  reached definitions.tailCall e = func_in o c r.W (slot_w i) hw e
-  reached definitions.tailCallIndirect e = tt
+  reached definitions.no_promote e = tt
+  reached definitions.promote_to_dyn e = reg_in o c r.A (slot_a i) ha e
+  reached definitions.tail_call e = func_in o c r.W (slot_w i) hw e
+  reached definitions.tail_call_indirect e = tt
   reached definitions.call e = func_in o c r.W (slot_w i) hw e
-  reached definitions.callIndirect e = tt
-  reached definitions.callImport e = import_in o c r.W (slot_w i) hw e
-  reached definitions.callShape e = shape_in o c r.B (slot_b i) hb e
+  reached definitions.call_indirect e = tt
+  reached definitions.call_import e = import_in o c r.W (slot_w i) hw e
+  reached definitions.call_shape e = shape_in o c r.B (slot_b i) hb e
   reached definitions.make_closure e = func_in o c r.W (slot_w i) hw e
   reached (definitions.of_kind k) e = type_ref_in o c r.B (slot_b i) hb e
   reached definitions.concatenate e = tt
   reached definitions.slice e = tt
-  reached definitions.notToRef e = tt
+  reached definitions.not_to_ref e = tt
   reached definitions.catchable e = tt
-  reached definitions.wideBits e = tt
+  reached definitions.wide_bits e = tt
 
 left_none : (xs ys : List LoadErrorKind) → xs ++ ys ≡ [] → xs ≡ []
 left_none [] ys e = refl

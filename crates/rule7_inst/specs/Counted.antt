@@ -17,21 +17,21 @@ use Rattle.rule_frames.specs.Frames.{func_of}
 -- what a rule names is in range, once the fields hold
 unfoldable pub Reached : Opened → Frame → Module.Inst → definitions.Rule → Type 0
 Reached o c i definitions.free = Unit {0}
-Reached o c i definitions.noPromote = Unit {0}
-Reached o c i definitions.promoteToDyn = slot_a i < c.regs
-Reached o c i definitions.tailCall = slot_w i < o.counts.funcs
-Reached o c i definitions.tailCallIndirect = Unit {0}
+Reached o c i definitions.no_promote = Unit {0}
+Reached o c i definitions.promote_to_dyn = slot_a i < c.regs
+Reached o c i definitions.tail_call = slot_w i < o.counts.funcs
+Reached o c i definitions.tail_call_indirect = Unit {0}
 Reached o c i definitions.call = slot_w i < o.counts.funcs
-Reached o c i definitions.callIndirect = Unit {0}
-Reached o c i definitions.callImport = slot_w i < o.counts.imports
-Reached o c i definitions.callShape = slot_b i < c.shapes
+Reached o c i definitions.call_indirect = Unit {0}
+Reached o c i definitions.call_import = slot_w i < o.counts.imports
+Reached o c i definitions.call_shape = slot_b i < c.shapes
 Reached o c i definitions.make_closure = slot_w i < o.counts.funcs
 Reached o c i (definitions.of_kind k) = slot_b i < c.type_refs
 Reached o c i definitions.concatenate = Unit {0}
 Reached o c i definitions.slice = Unit {0}
-Reached o c i definitions.notToRef = Unit {0}
+Reached o c i definitions.not_to_ref = Unit {0}
 Reached o c i definitions.catchable = Unit {0}
-Reached o c i definitions.wideBits = Unit {0}
+Reached o c i definitions.wide_bits = Unit {0}
 
 -- the faults of a rule
 unfoldable pub rule_in : List ℕ → Frame → Bool → Inst → Rule → List LoadErrorKind

@@ -30,14 +30,14 @@ ending_at code d h = map_at (λ (r : Row). r.terminates) other d rows code h
 -- a rule of the definitions as code has it
 abbrev pub coded : definitions.Rule → Rule
 coded definitions.free = Free
-coded definitions.noPromote = NoPromote
-coded definitions.promoteToDyn = PromoteToDyn
-coded definitions.tailCall = TailCall
-coded definitions.tailCallIndirect = TailCallIndirect
+coded definitions.no_promote = NoPromote
+coded definitions.promote_to_dyn = PromoteToDyn
+coded definitions.tail_call = TailCall
+coded definitions.tail_call_indirect = TailCallIndirect
 coded definitions.call = Call
-coded definitions.callIndirect = CallIndirect
-coded definitions.callImport = CallImport
-coded definitions.callShape = CallShape
+coded definitions.call_indirect = CallIndirect
+coded definitions.call_import = CallImport
+coded definitions.call_shape = CallShape
 coded definitions.make_closure = MakeClosure
 coded (definitions.of_kind Struct) = NewStruct
 coded (definitions.of_kind Array) = NewArray
@@ -45,21 +45,21 @@ coded (definitions.of_kind Map) = NewMap
 coded (definitions.of_kind Cell) = NewCell
 coded definitions.concatenate = Concatenate
 coded definitions.slice = Slice
-coded definitions.notToRef = NotToRef
+coded definitions.not_to_ref = NotToRef
 coded definitions.catchable = Catchable
-coded definitions.wideBits = WideBits
+coded definitions.wide_bits = WideBits
 
 decoded : (r : definitions.Rule) → rule_of (coded r) ≡ r
 unfolding rule_of
 decoded definitions.free = refl
-decoded definitions.noPromote = refl
-decoded definitions.promoteToDyn = refl
-decoded definitions.tailCall = refl
-decoded definitions.tailCallIndirect = refl
+decoded definitions.no_promote = refl
+decoded definitions.promote_to_dyn = refl
+decoded definitions.tail_call = refl
+decoded definitions.tail_call_indirect = refl
 decoded definitions.call = refl
-decoded definitions.callIndirect = refl
-decoded definitions.callImport = refl
-decoded definitions.callShape = refl
+decoded definitions.call_indirect = refl
+decoded definitions.call_import = refl
+decoded definitions.call_shape = refl
 decoded definitions.make_closure = refl
 decoded (definitions.of_kind Struct) = refl
 decoded (definitions.of_kind Array) = refl
@@ -67,9 +67,9 @@ decoded (definitions.of_kind Map) = refl
 decoded (definitions.of_kind Cell) = refl
 decoded definitions.concatenate = refl
 decoded definitions.slice = refl
-decoded definitions.notToRef = refl
+decoded definitions.not_to_ref = refl
 decoded definitions.catchable = refl
-decoded definitions.wideBits = refl
+decoded definitions.wide_bits = refl
 
 abbrev pub rules : List Rule
 rules = map (λ (r : Row). coded r.rule) rows

@@ -7,14 +7,14 @@ use Rattle.rule7_opcodes.specs.declared.Rule.TheVariants.{Free, NoPromote, Promo
 -- a rule as the definitions have it
 unfoldable pub rule_of : Rule → definitions.Rule
 rule_of Free = definitions.free
-rule_of NoPromote = definitions.noPromote
-rule_of PromoteToDyn = definitions.promoteToDyn
-rule_of TailCall = definitions.tailCall
-rule_of TailCallIndirect = definitions.tailCallIndirect
+rule_of NoPromote = definitions.no_promote
+rule_of PromoteToDyn = definitions.promote_to_dyn
+rule_of TailCall = definitions.tail_call
+rule_of TailCallIndirect = definitions.tail_call_indirect
 rule_of Call = definitions.call
-rule_of CallIndirect = definitions.callIndirect
-rule_of CallImport = definitions.callImport
-rule_of CallShape = definitions.callShape
+rule_of CallIndirect = definitions.call_indirect
+rule_of CallImport = definitions.call_import
+rule_of CallShape = definitions.call_shape
 rule_of MakeClosure = definitions.make_closure
 rule_of NewStruct = definitions.of_kind Struct
 rule_of NewArray = definitions.of_kind Array
@@ -22,6 +22,6 @@ rule_of NewMap = definitions.of_kind Map
 rule_of NewCell = definitions.of_kind Cell
 rule_of Concatenate = definitions.concatenate
 rule_of Slice = definitions.slice
-rule_of NotToRef = definitions.notToRef
+rule_of NotToRef = definitions.not_to_ref
 rule_of Catchable = definitions.catchable
-rule_of WideBits = definitions.wideBits
+rule_of WideBits = definitions.wide_bits

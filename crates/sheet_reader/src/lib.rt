@@ -7,7 +7,7 @@ ghost use Rattle.blocks.specs.Frame.{first_words};
 ghost use Rattle.reader.specs.Reader.{word};
 ghost use Rattle.sheet_reader.specs.Taken.{taken_of};
 
-// The lent bytes and where the next word stands. Functions over it are proved by hand: they are few and thin.
+// The lent bytes and where the next word stands.
 #[derive(Clone, Copy)]
 pub struct Reader<'a> {
     pub sheet: &'a [u8],
@@ -52,7 +52,7 @@ struct Read {
     next: usize,
 }
 
-// From here on sheet and position are parameters of their own, so no caller is proved by hand.
+// From here on sheet and position are parameters of their own.
 fn read_word(sheet: &[u8], at: usize) -> Read
     requires { at + 1 < 2 ^ 64 }
     ensures { (result.value ≡ get_or (words sheet.now) at 0) × (result.next ≡ at + 1) }
