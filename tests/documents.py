@@ -76,13 +76,13 @@ def cited_sections():
                 if name != 'HEADING':
                     compare(f'{path}: the section {name} of FORMAT.md', name in known, True)
 
-# headings lead to one place each, and each paragraph says where its definition is
+# headings lead to one place each, and each paragraph says where its definition or its law is
 def paragraphs():
     found = anchors(FORMAT)
     compare(f'{FORMAT}: headings that stand twice', [a for a in found if found.count(a) > 1], [])
     for part in re.split(r'\n{2,}', prose(FORMAT).split('\n## ', 1)[1].strip())[1:]:
         if not re.match(r'[#|-]|\d+\. ', part):
-            compare(f'{FORMAT}: a definition for "{part[:60]}"', bool(re.search(r'\(`\w+/(specs|src)/[^()]*\)$', part)), True)
+            compare(f'{FORMAT}: a definition for "{part[:60]}"', bool(re.search(r'\(`\w+/(specs|src|proofs)/[^()]*\)$', part)), True)
 
 # ── examples ──
 
