@@ -1,7 +1,7 @@
 """The loader as a program: tools/native/load.c linked with the library, built where it is not here or where one of them has changed."""
 import fcntl, glob, hashlib, os, shutil, subprocess, sys, tempfile
 from .files import Failed, say
-from .library import PROVED, ROOT, proved
+from .library import PROVED, ROOT, proved, rt
 
 BUILT = ROOT + '/target/tools'
 SOURCE, HEADER = ROOT + '/tools/native/load.c', ROOT + '/bindings/c/paqlluri.h'
@@ -85,6 +85,7 @@ def newest():
     return max(map(os.path.getmtime, [ROOT + '/crates.txt', *below]))
 
 def prove(tool):
+    rt('doc', stdout=subprocess.DEVNULL, stderr=subprocess.DEVNULL)  # that it is there at all
     say(tool, f'the loader is not here; {PROVES.format("it")}')
     if not proved(stdout=sys.stderr or subprocess.DEVNULL):
         raise Failed("the loader could not be built: 'tools/library' failed")
