@@ -1,2 +1,4 @@
 pub mod ScanLaws
 pub mod Theorems
+pub mod SheetRegions
+pub mod WholeScan

@@ -3,4 +3,3 @@ pub mod Contract
 pub mod Least
 pub mod ScanSteps
 pub mod SheetNumbers
-pub mod SheetRegions

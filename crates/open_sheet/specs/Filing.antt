@@ -27,7 +27,7 @@ use Rattle.canon.specs.Canon.{canon_string, canon_type}
 use Rattle.sorting.specs.Items.{Rising}
 use Rattle.open_canon.specs.Contract.{Regions, Numbered}
 use Rattle.open_canon.specs.SheetNumbers.{types_rising, strings_rising}
-use Rattle.open_canon.specs.SheetRegions.{type_number_lem, string_number_lem}
+use Rattle.open_canon.proofs.SheetRegions.{type_number_lem, string_number_lem}
 use Rattle.open_sheet.specs.declared.Counts.{Counts}
 use Rattle.open_sheet.specs.Ready.{counts_of, Entries, Ready, pos_at}
 

@@ -1,5 +1,5 @@
 use borrow.Author.Rules.{rules}
-use Rattle.open_canon.specs.ScanSteps.{whole_scan, whole_end}
+use Rattle.open_canon.proofs.WholeScan.{whole_scan, whole_end}
 use Rattle.open_canon.proofs.canonical.Goals as goal
 
 pub scan-requires : goal.scan-requires
