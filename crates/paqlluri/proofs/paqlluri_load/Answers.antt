@@ -2,6 +2,5 @@ use borrow.Author.Rules.{rules}
 use Rattle.paqlluri.proofs.Six.{six}
 use Rattle.paqlluri.proofs.paqlluri_load.Goals as goal
 
--- src/lib.rt:11:1
 pub returns : goal.returns
 returns c = search (rules, six)

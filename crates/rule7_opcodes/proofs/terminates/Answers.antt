@@ -2,9 +2,5 @@ use borrow.Author.Rules.{rules}
 use Rattle.rule7_opcodes.proofs.Tables.{ending_at}
 use Rattle.rule7_opcodes.proofs.terminates.Goals as goal
 
--- TODO ?array-read-result
--- array-read-result : tie.Need-array-read-result
--- array-read-result c = search rules
-
 pub returns : goal.returns
 returns c = ending_at c.args.code _ (search rules)
