@@ -3,7 +3,7 @@ use Rattle.std.specs.Prelude.{ℕ, zero, suc, ◌+◌, ◌-◌, ◌*◌, ◌%◌
 use Rattle.std.proofs.Math.Path.{refl, ap}
 use Rattle.std.proofs.Common.{sym, ap₂, ◌∙◌, length-take, length-drop, take-append-drop, length-take-le, eqb-true, leb-true, ltb-true, eq-eqb, le-leb, lt-ltb}
 use Rattle.std.proofs.Math.Bool.{and-false}
-use Rattle.std.proofs.Math.Option.{none, some}
+use Rattle.std.specs.Prelude.{None, Some}
 use native.Mathlib.Omega.{arith}
 use Rattle.std.proofs.Math.Seq.{take-nil}
 use Rattle.lists.specs.Lists.{all_of, concat_map, concat_map_from, pieces}
@@ -81,7 +81,7 @@ pub record Intact (newest : ℕ) (bytes : List ℕ) (n : ℕ) : Type 0 where
   pub in_block : length_word (words bytes) ≤ block_words * n
   pub zero_after : all_of (eqb 0) (drop (length_word (words bytes)) (words bytes)) ≡ true
 
-pub framed_intact : (newest : ℕ) (bytes ws : List ℕ) → framed newest bytes ≡ some ws →
+pub framed_intact : (newest : ℕ) (bytes ws : List ℕ) → framed newest bytes ≡ Some ws →
     Intact newest bytes (block_count bytes) × (ws ≡ take (length_word (words bytes)) (words bytes))
 unfolding framed intact_blocks intact_words ends_in_last blocks
 framed_intact newest bytes ws e =
@@ -145,7 +145,7 @@ title_of (x ∷ y ∷ w) (suc (suc n)) b l h z =
     let e : y ≡ length (take n w) + 2 = omega (arith, length-take n w) in
     (ap (λ v. x ∷ v ∷ take n w) e, refl)
 
-pub framed_bytes : (newest : ℕ) (bytes ws : List ℕ) → all_of is_byte bytes ≡ true → framed newest bytes ≡ some ws → Framed newest bytes ws
+pub framed_bytes : (newest : ℕ) (bytes ws : List ℕ) → all_of is_byte bytes ≡ true → framed newest bytes ≡ Some ws → Framed newest bytes ws
 unfolding written blocks_for
 framed_bytes newest bytes ws h e =
     let i = framed_intact newest bytes ws e in
@@ -181,8 +181,8 @@ framed_bytes newest bytes ws h e =
         ∙ pieces_concat_map words_in block_words length_words_in (pieces block_bytes (block_count bytes) bytes)
 
 -- two sheets of the same words are the same
-pub framed_same : (newest : ℕ) (s t ws : List ℕ) → all_of is_byte s ≡ true → all_of is_byte t ≡ true → framed newest s ≡ some ws →
-    framed newest t ≡ some ws → s ≡ t
+pub framed_same : (newest : ℕ) (s t ws : List ℕ) → all_of is_byte s ≡ true → all_of is_byte t ≡ true → framed newest s ≡ Some ws →
+    framed newest t ≡ Some ws → s ≡ t
 framed_same newest s t ws h k d e = (framed_bytes newest s ws h d).bytes_are ∙ sym (framed_bytes newest t ws k e).bytes_are
 
 -- what is written is bytes
@@ -205,7 +205,7 @@ written_bytes ws = go 0 (pieces block_words (blocks_for (length ws)) ws)
 
 -- the tests passed, one by one
 pub intact_framed : (newest : ℕ) (bytes : List ℕ) → Intact newest bytes (block_count bytes) →
-    framed newest bytes ≡ some (take (length_word (words bytes)) (words bytes))
+    framed newest bytes ≡ Some (take (length_word (words bytes)) (words bytes))
 unfolding framed intact_blocks intact_words ends_in_last blocks
 intact_framed newest bytes i =
     let n = block_count bytes in
@@ -222,11 +222,11 @@ intact_framed newest bytes i =
     )
 
 -- a test that fails
-pub broken_blocks : (newest : ℕ) (bytes : List ℕ) → intact_blocks bytes ≡ false → framed newest bytes ≡ none
+pub broken_blocks : (newest : ℕ) (bytes : List ℕ) → intact_blocks bytes ≡ false → framed newest bytes ≡ None
 unfolding framed
 broken_blocks newest bytes h = rw h
 
-pub broken_words : (newest : ℕ) (bytes : List ℕ) → intact_words newest (block_count bytes) (words bytes) ≡ false → framed newest bytes ≡ none
+pub broken_words : (newest : ℕ) (bytes : List ℕ) → intact_words newest (block_count bytes) (words bytes) ≡ false → framed newest bytes ≡ None
 unfolding framed
 broken_words newest bytes h =
-    rw h (ap (λ b. cond b (some (take (length_word (words bytes)) (words bytes))) none) (and-false (intact_blocks bytes)))
+    rw h (ap (λ b. cond b (Some (take (length_word (words bytes)) (words bytes))) None) (and-false (intact_blocks bytes)))

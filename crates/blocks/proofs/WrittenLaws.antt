@@ -1,7 +1,7 @@
 -- What was written is framed: one block, all blocks, the frame.
 use Rattle.std.specs.Prelude.{ℕ, zero, suc, ◌+◌, ◌-◌, ◌*◌, ◌%◌, ◌≤◌, ◌<◌, ◌≡◌, refl, List, [], ◌∷◌, ◌++◌, map, true, eqb, length, take, drop, replicate}
 use Rattle.std.proofs.Common.{sym, ap, ap₂, ◌∙◌, append-nil, arith, length-append, length-take, length-drop, take-append-drop, take_at, drop_at, take_all, length-take-le, eqb-true, eq-eqb, le-leb, lt-ltb}
-use Rattle.std.proofs.Math.Option.{some}
+use Rattle.std.specs.Prelude.{Some}
 use Rattle.std.proofs.lemmas.List.{length-replicate}
 use Rattle.std.proofs.Math.Seq.{take-append-add}
 use Rattle.lists.specs.Lists.{all_of, concat_map, map_from, concat_map_from, pieces}
@@ -162,7 +162,7 @@ length_word_written e body h =
 -- the words that were written, read back
 pub framed_written : (newest e : ℕ) → is_edition newest e ≡ true → (body : List ℕ) → all_of is_word (titled e body) ≡ true →
     blocks_for (length (titled e body)) ≤ most_blocks →
-    framed newest (written (titled e body)) ≡ some (titled e body)
+    framed newest (written (titled e body)) ≡ Some (titled e body)
 unfolding framed
 framed_written newest e q body h k =
     let ws = titled e body in
@@ -176,4 +176,4 @@ framed_written newest e q body h k =
       w,
       titled_intact newest e q body n refl zs (all_replicate (eqb 0) (block_words * n - length ws) 0 refl),
     )
-    (ap some (take_at ws zs (length_word (ws ++ zs)) (sym (title_length e body zs))))
+    (ap Some (take_at ws zs (length_word (ws ++ zs)) (sym (title_length e body zs))))

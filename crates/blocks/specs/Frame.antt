@@ -1,14 +1,14 @@
 -- What code says of blocks: the frame that it finds, one block, and words that go on as zeros.
 use Rattle.std.specs.Prelude.{ℕ, ◌*◌, List, ◌++◌, Bool, ◌&&◌, eqb, ltb, length, take, drop, replicate}
-use Rattle.std.proofs.Math.Option.{Option, none, some}
+use Rattle.std.specs.Prelude.{Option, None, Some}
 use Rattle.lists.specs.Lists.{all_of}
-use Rattle.blocks.specs.declared.Frame.{Frame}
-use Rattle.blocks.specs.declared.Frame.TheVariants.{Broken, Words}
+use Rattle.std.specs.Prelude.{Option}
+use Rattle.std.specs.Prelude.{None, Some}
 use Rattle.blocks.specs.Blocks.{block_bytes, checked, block_count, words}
 
-unfoldable pub frame_of : Option (List ℕ) → Frame
-frame_of none = Broken
-frame_of (some ws) = Words (length ws)
+unfoldable pub frame_of : Option (List ℕ) → Option ℕ
+frame_of None = None
+frame_of (Some ws) = Some (length ws)
 
 -- block k is there and ends with its check word
 unfoldable pub block_checked : List ℕ → ℕ → Bool

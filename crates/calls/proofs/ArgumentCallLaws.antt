@@ -1,11 +1,10 @@
 -- How many arguments a call may have, of every call.
 use Prim.Native.Nat.{ℕ, zero, suc, ◌+◌, ◌≤◌, ◌<◌, max}
-use Rattle.std.specs.Prelude.{◌≡◌, false, not, ◌&&◌, ◌||◌, length, get_or}
+use Rattle.std.specs.Prelude.{◌≡◌, false, not, ◌&&◌, ◌||◌, length, get_or, None, Some, Ok}
 use Rattle.std.proofs.Math.Path.{refl, sym, ap, subst}
 use Rattle.std.proofs.Common.{◌∙◌, arith}
 use Rattle.std.proofs.Math.Bool.{Bool, true, or-true}
 use mathlib.Core.List.{List, [], ◌∷◌, ◌++◌, map, append-nil, append_assoc}
-use Rattle.std.proofs.Math.Option.{none, some}
 use Rattle.std.proofs.Math.Decide.{dec_lt}
 use Rattle.std.proofs.Math.Dec.{eqb, ltb}
 use borrow.Author.Tests.{eq-eqb, ne_eqb, eqb-true}
@@ -17,7 +16,6 @@ use Rattle.error.specs.declared.LoadErrorKind.{LoadErrorKind}
 use Rattle.error.specs.declared.LoadErrorKind.TheVariants.{FallsThrough, ArityMismatch, CalleeHasCaptures, TailCallInTry}
 use Rattle.error.specs.declared.LoadErrorKind.TheVariants.{UnresolvedImport, BadSignature, BadParamList}
 use Rattle.error.specs.declared.LoadError.{LoadError}
-use Rattle.error.specs.declared.Loaded.TheVariants.{Accepted}
 use Rattle.error.specs.Answer.{kind_numbers, in_module, in_function, at_position, unless, in_range, string_number}
 use Rattle.sheet.specs.Module.{Param, ParamList, Import, Inst, Func, Module, opcode, slot_a, slot_d, slot_w}
 use Rattle.sheet.specs.Decode.{decode}
@@ -208,7 +206,7 @@ import_holds m hs j h l =
     let d = (map_empty in_module (concat_map (import_faults hs m) m.imports)).0 c in
     (every no_import (import_faults hs m) m.imports).0 d j l
 
-list_fits : (m : Module) (hs : List HostFn) (i : Import) (ps : List Param) → import_faults hs m i ≡ [] → i.params ≡ some ps →
+list_fits : (m : Module) (hs : List HostFn) (i : Import) (ps : List Param) → import_faults hs m i ≡ [] → i.params ≡ Some ps →
     length ps ≡ most_arguments m i
 unfolding import_faults param_list_faults fits
 list_fits m hs i ps h e =
@@ -318,8 +316,8 @@ module _ (m : Module) (f pc expected found : ℕ) where
 
 -- ── of every call ──
 
-module _ (sheet hosts : List ℕ) (table work : ℕ) (m : Module) (d : decode sheet ≡ some m) where
-  holds : (l f pc : ℕ) → load sheet hosts table work ≡ Accepted l → HasInst m f pc → own_faults_at m f pc ≡ []
+module _ (sheet hosts : List ℕ) (table work : ℕ) (m : Module) (d : decode sheet ≡ Some m) where
+  holds : (l f pc : ℕ) → load sheet hosts table work ≡ Ok l → HasInst m f pc → own_faults_at m f pc ≡ []
   holds l f pc q s = accepted_rules sheet hosts table work m d l q λ hs h. rule_holds m f pc s (codes_hold m hs h).1
 
   mismatched : (f pc expected found : ℕ) → load sheet hosts table work ≡ mismatch_at f pc expected found →
@@ -370,7 +368,7 @@ module _ (sheet hosts : List ℕ) (table work : ℕ) (m : Module) (d : decode sh
           go (yes l) = (x.few l, λ e. omega (arith, x.few l))
           go (no l) = let y = x.many (omega arith) in (y.1, λ e. omega (arith, y.0, y.1))
 
-      all_given : (i : Import) → i.params ≡ none → (b : Bool) → may_leave_out m.edition ≡ b → fewest_arguments m i ≡ most_arguments m i
+      all_given : (i : Import) → i.params ≡ None → (b : Bool) → may_leave_out m.edition ≡ b → fewest_arguments m i ≡ most_arguments m i
       all_given i l true e = fewest_mandatory m i e ∙ ap (λ (k : ParamList). mandatory k (most_arguments m i)) l
       all_given i l false e = fewest_all m i e
 

@@ -1,12 +1,10 @@
 -- What is said of calls holds.
-use Rattle.std.specs.Prelude.{◌≡◌, refl, ◌↔◌, true, false, ℕ, length, take}
+use Rattle.std.specs.Prelude.{◌≡◌, refl, ◌↔◌, true, false, ℕ, length, take, None, Some, Err, Ok}
 use Rattle.std.proofs.Math.Path.{sym, ap}
 use Rattle.std.proofs.Common.{ap₂, ◌∙◌, subst, subst₂, take-append-drop}
 use mathlib.Core.List.{List, [], ◌∷◌, ◌++◌}
-use Rattle.std.proofs.Math.Option.{none, some}
 use Rattle.std.proofs.Math.ListN.{drop}
-use Rattle.error.specs.declared.Loaded.{Loaded}
-use Rattle.error.specs.declared.Loaded.TheVariants.{Accepted, Refused}
+use Rattle.error.specs.Answer.{Loaded}
 use Rattle.error.specs.declared.LoadErrorKind.TheVariants.{Decode, BadHostList, ShortSlice}
 use Rattle.error.specs.Answer.{kind_numbers, numbers, refusal, NumbersTell, is_accepted, in_module, first}
 use Rattle.error.proofs.Told.{numbers_tell}
@@ -53,17 +51,17 @@ pub record Fronted (m : Module) (hs : List HostFn) (l : ℕ) (words : List ℕ) 
   pub fronts : words ≡ table_of hs m ++ drop l words
 
 module _ (sheet hosts table work : List ℕ) (l : ℕ) (left work_left : List ℕ)
-    (c : Loads sheet hosts table work (Accepted l) left work_left) where
+    (c : Loads sheet hosts table work (Ok l) left work_left) where
   pub links : Links sheet hosts (length table) (length work) l
   links = (accepted sheet hosts (length table) (length work) l).0 (sym c.answers)
 
   -- of any words that begin so
-  pub fronted : (m : Module) (hs : List HostFn) → decode sheet ≡ some m → decode_hosts hosts ≡ some hs → (words : List ℕ) →
+  pub fronted : (m : Module) (hs : List HostFn) → decode sheet ≡ Some m → decode_hosts hosts ≡ Some hs → (words : List ℕ) →
       Begins l left words → Fronted m hs l words
   unfolding Begins
   fronted m hs d o words b =
-      let a : links.source ≡ m = let e : some links.source ≡ some m = sym links.decodes ∙ d in cc in
-      let g : links.host_list ≡ hs = let e : some links.host_list ≡ some hs = sym links.lists ∙ o in cc in
+      let a : links.source ≡ m = let e : Some links.source ≡ Some m = sym links.decodes ∙ d in cc in
+      let g : links.host_list ≡ hs = let e : Some links.host_list ≡ Some hs = sym links.lists ∙ o in cc in
       let w = table_written sheet hosts table work l m hs (sym c.answers) d o in
       record {
         faultless = sym (ap₂ faults_of g a) ∙ links.kept;
@@ -71,7 +69,7 @@ module _ (sheet hosts table work : List ℕ) (l : ℕ) (left work_left : List �
       }
 
   -- what holds of the linked table of a module without faults, and any rest, holds of them
-  pub of_left : (P : List ℕ → Type 0) (m : Module) → decode sheet ≡ some m → (words : List ℕ) → Begins l left words →
+  pub of_left : (P : List ℕ → Type 0) (m : Module) → decode sheet ≡ Some m → (words : List ℕ) → Begins l left words →
       ((hs : List HostFn) → faults_of hs m ≡ [] → (rest : List ℕ) → P (table_of hs m ++ rest)) → P words
   of_left P m d words b holds =
       let f = fronted m links.host_list d links.lists words b in
@@ -114,9 +112,9 @@ long_here sheet hosts table work r e n q = n (e ∙ q)
 
 -- any words that begin as two accepted calls left them agree
 begin_alike : (r hosts first second : List ℕ) (w : RenumberedSheet r first second) →
-    (table work : List ℕ) (l : ℕ) (left work_left : List ℕ) → Loads first hosts table work (Accepted l) left work_left →
+    (table work : List ℕ) (l : ℕ) (left work_left : List ℕ) → Loads first hosts table work (Ok l) left work_left →
     (table_also work_also : List ℕ) (k : ℕ) (left_also work_left_also : List ℕ) →
-    Loads second hosts table_also work_also (Accepted k) left_also work_left_also →
+    Loads second hosts table_also work_also (Ok k) left_also work_left_also →
     (words words_also : List ℕ) → Begins l left words → Begins k left_also words_also →
     AgreeAsked r w.source words words_also
 begin_alike r hosts first second w table work l left work_left c table_also work_also k left_also work_left_also d words words_also b e =
@@ -149,8 +147,8 @@ numbering_free r hosts first second w table work x left work_left c n table_also
 -- ── demand 1 ──
 
 -- what both decode to, with room, is judged by the rules
-pub by_rules : (sheet hosts : List ℕ) (table work : ℕ) (m : Module) (hs : List HostFn) → decode sheet ≡ some m →
-    decode_hosts hosts ≡ some hs →
+pub by_rules : (sheet hosts : List ℕ) (table work : ℕ) (m : Module) (hs : List HostFn) → decode sheet ≡ Some m →
+    decode_hosts hosts ≡ Some hs →
     long_enough sheet table work ≡ true → load sheet hosts table work ≡ first (length (table_of hs m)) (faults_of hs m)
 unfolding load answer
 by_rules sheet hosts table work m hs d o t = ap answer (opens sheet hosts table work m hs d o t)
@@ -167,20 +165,20 @@ verdict sheet hosts table work =
     let at = by_rules sheet hosts table work in
     let r = load sheet hosts table work in
     record {
-      broken_sheet = exactly r (Refused (in_module Decode)) (refusal 1) (decode sheet ≡ none) refl (broken_sheet_lem sheet hosts table work);
-      broken_hosts = λ m d. exactly r (Refused (in_module BadHostList)) (refusal 23) (decode_hosts hosts ≡ none) refl (
+      broken_sheet = exactly r (Err (in_module Decode)) (refusal 1) (decode sheet ≡ None) refl (broken_sheet_lem sheet hosts table work);
+      broken_hosts = λ m d. exactly r (Err (in_module BadHostList)) (refusal 23) (decode_hosts hosts ≡ None) refl (
         λ q. ((broken_hosts_lem sheet hosts table work).0 q).1,
         λ n. (broken_hosts_lem sheet hosts table work).1 (record { value = m; given = d }, n),
       );
-      short_slice = λ m hs d o. exactly r (Refused (in_module ShortSlice)) (refusal 24) (long_enough sheet table work ≡ false) refl (
+      short_slice = λ m hs d o. exactly r (Err (in_module ShortSlice)) (refusal 24) (long_enough sheet table work ≡ false) refl (
         λ q. ((short_slice_lem sheet hosts table work).0 q).2,
         λ n. (short_slice_lem sheet hosts table work).1 (record { value = m; given = d }, record { value = hs; given = o }, n),
       );
       accepted = λ m hs l d o t.
           let n = length (table_of hs m) in
-          exactly r (Accepted l) (0 ∷ 0 ∷ l ∷ 0 ∷ 0 ∷ 0 ∷ []) ((faults_of hs m ≡ []) × (l ≡ n)) refl (
+          exactly r (Ok l) (0 ∷ 0 ∷ l ∷ 0 ∷ 0 ∷ 0 ∷ []) ((faults_of hs m ≡ []) × (l ≡ n)) refl (
             λ q. first_accepted n l (faults_of hs m) (sym (at m hs d o t) ∙ q),
-            λ k. at m hs d o t ∙ ap (first n) k.0 ∙ unfold first in ap Accepted (sym k.1),
+            λ k. at m hs d o t ∙ ap (first n) k.0 ∙ unfold first in ap Ok (sym k.1),
           );
       refused = λ m hs e es d o t q.
           let i = refused_first sheet hosts table work m hs e es (opens sheet hosts table work m hs d o t) q in (i, ap numbers i);
@@ -189,8 +187,8 @@ verdict sheet hosts table work =
 -- 1, 23 and 24 are the kinds that touch nothing
 early_same : (a : Loaded) → before_rules a ≡ is_early a
 unfolding is_early before_rules early kind_number
-early_same (Accepted l) = refl
-early_same (Refused e) = refl
+early_same (Ok l) = refl
+early_same (Err e) = refl
 
 module _ (sheet hosts table work : List ℕ) (r : Loaded) (left work_left : List ℕ) (c : Loads sheet hosts table work r left work_left) where
   early_here : before_rules (load sheet hosts (length table) (length work)) ≡ is_early r

@@ -1,8 +1,7 @@
 -- What the edition decides, of every call.
-use Rattle.std.specs.Prelude.{ℕ, ◌≤◌, ◌≡◌, refl, true, List, length}
+use Rattle.std.specs.Prelude.{ℕ, ◌≤◌, ◌≡◌, refl, true, List, length, Option, None, Some}
 use Rattle.std.proofs.Math.Path.{sym, ap}
 use Rattle.std.proofs.Common.{subst, ◌∙◌, arith}
-use Rattle.std.proofs.Math.Option.{Option, none, some}
 use Rattle.sheet.specs.Module.{Module}
 use Rattle.sheet.specs.Decode.{decode}
 use Rattle.sheet.proofs.DecodedTheorems.{decoded_edition}
@@ -18,12 +17,12 @@ use Rattle.calls.proofs.CallLaws.{by_rules, verdict}
 use Rattle.calls.specs.EditionCalls.{stated_edition, answer_under, EditionAnswered, EditionsRight, OneEdition}
 
 -- what has no value where it would be absurd is nothing
-nothing_else : {A : Type 0} (o : Option A) → ((a : A) → o ≡ some a → ⊥) → o ≡ none
-nothing_else none f = refl
-nothing_else (some a) f = absurd (f a refl)
+nothing_else : {A : Type 0} (o : Option A) → ((a : A) → o ≡ Some a → ⊥) → o ≡ None
+nothing_else None f = refl
+nothing_else (Some a) f = absurd (f a refl)
 
 module _ (sheet hosts : List ℕ) (table work : ℕ) where
-  ruled : (m : Module) (hs : List HostFn) → decode sheet ≡ some m → decode_hosts hosts ≡ some hs → long_enough sheet table work ≡ true →
+  ruled : (m : Module) (hs : List HostFn) → decode sheet ≡ Some m → decode_hosts hosts ≡ Some hs → long_enough sheet table work ≡ true →
       (most : ℕ) → most ≡ most_on_chain (stated_edition sheet) → load sheet hosts table work ≡ answer_under most hs m
   unfolding answer_under
   ruled m hs d o t most e =

@@ -1,10 +1,9 @@
 -- What the names of exports decide, of every call.
-use Rattle.std.specs.Prelude.{ℕ, suc, ◌<◌, Bool, false, not, ◌&&◌, ◌||◌, eqb, ltb, length, get_or}
+use Rattle.std.specs.Prelude.{ℕ, suc, ◌<◌, Bool, false, not, ◌&&◌, ◌||◌, eqb, ltb, length, get_or, Some, Err}
 use Rattle.std.proofs.Math.Path.{◌≡◌, refl, sym, ap, subst}
 use Rattle.std.proofs.Common.{ap₂, ◌∙◌, eq-eqb, ne_eqb, eqb-true}
 use Rattle.std.proofs.Math.Bool.{true, or-true}
 use mathlib.Core.List.{List, [], ◌∷◌, ◌++◌, map}
-use Rattle.std.proofs.Math.Option.{some}
 use native.Mathlib.Omega.{arith}
 use Rattle.std.proofs.Math.Decide.{dec_lt}
 use Rattle.std.proofs.lemmas.Bool.{not-true}
@@ -15,7 +14,6 @@ use Rattle.error.specs.declared.StrId.{StrId}
 use Rattle.error.specs.declared.LoadErrorKind.{LoadErrorKind}
 use Rattle.error.specs.declared.LoadErrorKind.TheVariants.{ExportNameOutOfRange, DuplicateExport}
 use Rattle.error.specs.declared.LoadError.{LoadError}
-use Rattle.error.specs.declared.Loaded.TheVariants.{Refused}
 use Rattle.error.specs.Answer.{kind_numbers, in_module, string_number}
 use Rattle.sheet.specs.Module.{Export, Module}
 use Rattle.sheet.specs.Decode.{decode}
@@ -144,9 +142,9 @@ module _ (m : Module) (k : LoadErrorKind) (n : of_names k ≡ true) where
 
 -- ── refusals ──
 
-module _ (sheet hosts : List ℕ) (table work : ℕ) (m : Module) (d : decode sheet ≡ some m) where
+module _ (sheet hosts : List ℕ) (table work : ℕ) (m : Module) (d : decode sheet ≡ Some m) where
   -- 27 and 28 come of the rules
-  refused_origin : (k : LoadErrorKind) → of_names k ≡ true → load sheet hosts table work ≡ Refused (in_module k) → Origin m k
+  refused_origin : (k : LoadErrorKind) → of_names k ≡ true → load sheet hosts table work ≡ Err (in_module k) → Origin m k
   unfolding of_rules
   refused_origin k n q =
       let t : of_rules k ≡ true = ap (λ (b : Bool). before_exports k || b) n ∙ or-true (before_exports k) in
@@ -155,7 +153,7 @@ module _ (sheet hosts : List ℕ) (table work : ℕ) (m : Module) (d : decode sh
   edition_is : m.edition ≡ stated_edition sheet
   edition_is = (decoded_edition sheet m d).0
 
-  out_of_range_lem : (name : StrId) → load sheet hosts table work ≡ Refused (in_module (ExportNameOutOfRange name)) →
+  out_of_range_lem : (name : StrId) → load sheet hosts table work ≡ Err (in_module (ExportNameOutOfRange name)) →
       (stated_edition sheet ≡ 2) × NoString m name.0
   unfolding of_names kind_number kind_numbers
   out_of_range_lem name q =
@@ -168,7 +166,7 @@ module _ (sheet hosts : List ℕ) (table work : ℕ) (m : Module) (d : decode sh
       (sym edition_is ∙ second_reads o.reads, record { place = i; inside = o.inside; named = sym y; absent = omega arith }))
       (λ k l e. let z : ◌≡◌ {A = ℕ} 0 1 = cc in absurd (omega arith))
 
-  duplicate_at : (n : ℕ) → load sheet hosts table work ≡ Refused (in_module (DuplicateExport n)) → (stated_edition sheet ≡ 2) × Repeats m n
+  duplicate_at : (n : ℕ) → load sheet hosts table work ≡ Err (in_module (DuplicateExport n)) → (stated_edition sheet ≡ 2) × Repeats m n
   unfolding of_names kind_number kind_numbers
   duplicate_at n q =
       let o = refused_origin (DuplicateExport n) refl q in
@@ -200,7 +198,7 @@ last_empty : (m : Module) (hs : List HostFn) → faults_of hs m ≡ [] → expor
 unfolding module_faults
 last_empty m hs h = ((append_empty (earlier_faults (most_of m) hs m) (exports_faults m)).0 h).1
 
-answered : (sheet hosts : List ℕ) (table work : ℕ) (m : Module) → decode sheet ≡ some m →
+answered : (sheet hosts : List ℕ) (table work : ℕ) (m : Module) → decode sheet ≡ Some m →
     NamesAnswered sheet m (load sheet hosts table work)
 unfolding exports_faults
 answered sheet hosts table work m d =

@@ -1,10 +1,8 @@
 -- How many arguments a call may have, said of what calls of `load` answer.
-use Rattle.std.specs.Prelude.{ℕ, ◌≤◌, ◌<◌, ◌≡◌, true, not, List, [], ◌∷◌, length, get_or}
-use Rattle.std.proofs.Math.Option.{none, some}
+use Rattle.std.specs.Prelude.{ℕ, ◌≤◌, ◌<◌, ◌≡◌, true, not, List, [], ◌∷◌, length, get_or, None, Some, Err, Ok}
 use Rattle.lists.specs.Lists.{contains, keep}
 use Rattle.error.specs.declared.LoadErrorKind.TheVariants.{ArityMismatch}
-use Rattle.error.specs.declared.Loaded.{Loaded}
-use Rattle.error.specs.declared.Loaded.TheVariants.{Accepted, Refused}
+use Rattle.error.specs.Answer.{Loaded}
 use Rattle.error.specs.Answer.{at_position}
 use Rattle.sheet.specs.Module.{Param, Import, Inst, Module, opcode, slot_d, slot_w}
 use Rattle.sheet.specs.Decode.{decode}
@@ -41,15 +39,15 @@ pub record Mismatch (least most found expected : ℕ) : Type 0 where
 
 -- 8 with these two numbers, there
 abbrev pub mismatch_at : ℕ → ℕ → ℕ → ℕ → Loaded
-mismatch_at f pc expected found = Refused (at_position f pc (ArityMismatch expected found))
+mismatch_at f pc expected found = Err (at_position f pc (ArityMismatch expected found))
 
 -- what the arguments of calls decide of an answer to a sheet that holds m
 pub record ArgumentsAnswered (sheet : List ℕ) (m : Module) (r : Loaded) : Type 0 where
   -- acceptance means that a call of an import has neither too few nor too many
-  pub imports : (l f pc : ℕ) → r ≡ Accepted l → HasInst m f pc → let i = inst_at m f pc in CallsImport i →
+  pub imports : (l f pc : ℕ) → r ≡ Ok l → HasInst m f pc → let i = inst_at m f pc in CallsImport i →
       (fewest_arguments m (import_at m (slot_w i)) ≤ slot_d i) × (slot_d i ≤ most_arguments m (import_at m (slot_w i)))
   -- and a direct call of a function as many as its signature has
-  pub functions : (l f pc : ℕ) → r ≡ Accepted l → HasInst m f pc → let i = inst_at m f pc in CallsFunction i → slot_d i ≡ callee_params m i
+  pub functions : (l f pc : ℕ) → r ≡ Ok l → HasInst m f pc → let i = inst_at m f pc in CallsFunction i → slot_d i ≡ callee_params m i
   -- 8 at a call of an import: the fewest are expected of too few, the most of too many
   pub import_mismatch : (f pc expected found : ℕ) → r ≡ mismatch_at f pc expected found → let i = inst_at m f pc in CallsImport i →
       (found ≡ slot_d i) × Mismatch (fewest_arguments m (import_at m (slot_w i))) (most_arguments m (import_at m (slot_w i))) found expected
@@ -57,16 +55,16 @@ pub record ArgumentsAnswered (sheet : List ℕ) (m : Module) (r : Loaded) : Type
   pub function_mismatch : (f pc expected found : ℕ) → r ≡ mismatch_at f pc expected found → let i = inst_at m f pc in CallsFunction i →
       (found ≡ slot_d i) × (expected ≡ callee_params m i) × (found ≡ expected → ⊥)
   -- the fewest are the mandatory entries of the import's list in edition 2
-  pub listed : (i : Import) (ps : List Param) → stated_edition sheet ≡ 2 → i.params ≡ some ps →
+  pub listed : (i : Import) (ps : List Param) → stated_edition sheet ≡ 2 → i.params ≡ Some ps →
       fewest_arguments m i ≡ length (keep (λ p. not (optional p)) ps)
   -- which are no more than its signature has, where the sheet is accepted
-  pub in_order : (l j : ℕ) → r ≡ Accepted l → j < length m.imports → fewest_arguments m (import_at m j) ≤ most_arguments m (import_at m j)
+  pub in_order : (l j : ℕ) → r ≡ Ok l → j < length m.imports → fewest_arguments m (import_at m j) ≤ most_arguments m (import_at m j)
   -- without a list they are all, and in edition 1 with one too
-  pub unlisted : (i : Import) → i.params ≡ none → fewest_arguments m i ≡ most_arguments m i
+  pub unlisted : (i : Import) → i.params ≡ None → fewest_arguments m i ≡ most_arguments m i
   pub unread : (i : Import) → stated_edition sheet ≡ 1 → fewest_arguments m i ≡ most_arguments m i
 
 -- of every call
 unfoldable pub ArgumentsRight : Type 0
 ArgumentsRight =
-    (sheet hosts table work : List ℕ) (r : Loaded) (left work_left : List ℕ) (m : Module) → decode sheet ≡ some m →
+    (sheet hosts table work : List ℕ) (r : Loaded) (left work_left : List ℕ) (m : Module) → decode sheet ≡ Some m →
     Loads sheet hosts table work r left work_left → ArgumentsAnswered sheet m r

@@ -1,20 +1,18 @@
 -- Demands 1 and 3 and the family, said of what calls of `load`, `descends` and `chain_length` answer and write.
-use Rattle.std.specs.Prelude.{◌≡◌, ◌↔◌, Bool, true, false, List, [], ◌∷◌, ◌++◌, ℕ, ◌<◌, length, get_or, take, drop, replicate}
-use Rattle.std.proofs.Math.Option.{none, some}
+use Rattle.std.specs.Prelude.{◌≡◌, ◌↔◌, Bool, true, false, List, [], ◌∷◌, ◌++◌, ℕ, ◌<◌, length, get_or, take, drop, replicate, None, Some}
+use Rattle.std.specs.Prelude.{Err, Ok}
 use Rattle.lists.specs.Lists.{all_of, contains}
 use Rattle.blocks.specs.Blocks.{is_byte, is_word}
 use Rattle.error.specs.declared.LoadErrorKind.TheVariants.{Decode, BadHostList, ShortSlice}
 use Rattle.error.specs.declared.LoadError.{LoadError}
-use Rattle.error.specs.declared.Loaded.{Loaded}
-use Rattle.error.specs.declared.Loaded.TheVariants.{Accepted, Refused}
+use Rattle.error.specs.Answer.{Loaded}
 use Rattle.error.specs.Answer.{kind_numbers, numbers, refusal, is_accepted, in_module}
 use Rattle.sheet.specs.Module.{Module}
 use Rattle.sheet.specs.Decode.{decode}
 use Rattle.host.specs.Host.{HostFn, decode_hosts}
 use Rattle.spans.specs.Spans.{Descendant}
 use Rattle.descends.specs.Descends.{descends}
-use Rattle.descends.specs.declared.ChainLength.{ChainLength}
-use Rattle.descends.specs.Lengths.{chain_length_in}
+use Rattle.descends.specs.Lengths.{ChainLength, chain_length_in}
 use Rattle.table.specs.Table.{table_of}
 use Rattle.load.specs.Load.{faults_of, long_enough, load, table_after, work_after}
 use Rattle.law_linked.specs.Find.{hooks_in, canon_in, catch_in}
@@ -46,8 +44,8 @@ pub record AsksLength (table : List ℕ) (t : ℕ) (x : ChainLength) : Type 0 wh
 
 -- 1, 23 and 24, given before any rule
 unfoldable pub is_early : Loaded → Bool
-is_early (Accepted l) = false
-is_early (Refused e) = contains (1 ∷ 23 ∷ 24 ∷ []) (get_or (kind_numbers e.kind) 0 0)
+is_early (Ok l) = false
+is_early (Err e) = contains (1 ∷ 23 ∷ 24 ∷ []) (get_or (kind_numbers e.kind) 0 0)
 
 -- a is answered exactly where P holds, and so are the six numbers
 unfoldable pub Exactly : Loaded → Loaded → List ℕ → Type 0 → Type 0
@@ -56,31 +54,31 @@ Exactly r a six P = ((r ≡ a) ↔ P) × ((numbers r ≡ six) ↔ P)
 -- the answer: the cases leave nothing out
 pub record Verdict (sheet hosts : List ℕ) (table work : ℕ) (r : Loaded) : Type 0 where
   -- 1 exactly where nothing is decoded
-  pub broken_sheet : Exactly r (Refused (in_module Decode)) (refusal 1) (decode sheet ≡ none)
+  pub broken_sheet : Exactly r (Err (in_module Decode)) (refusal 1) (decode sheet ≡ None)
   -- 23 exactly where the host list is not
-  pub broken_hosts : (m : Module) → decode sheet ≡ some m →
-      Exactly r (Refused (in_module BadHostList)) (refusal 23) (decode_hosts hosts ≡ none)
+  pub broken_hosts : (m : Module) → decode sheet ≡ Some m →
+      Exactly r (Err (in_module BadHostList)) (refusal 23) (decode_hosts hosts ≡ None)
   -- 24 exactly where table or work is too short
-  pub short_slice : (m : Module) (hs : List HostFn) → decode sheet ≡ some m → decode_hosts hosts ≡ some hs →
-      Exactly r (Refused (in_module ShortSlice)) (refusal 24) (long_enough sheet table work ≡ false)
+  pub short_slice : (m : Module) (hs : List HostFn) → decode sheet ≡ Some m → decode_hosts hosts ≡ Some hs →
+      Exactly r (Err (in_module ShortSlice)) (refusal 24) (long_enough sheet table work ≡ false)
   -- accepted exactly where no rule is broken, and with so many words
-  pub accepted : (m : Module) (hs : List HostFn) (l : ℕ) → decode sheet ≡ some m → decode_hosts hosts ≡ some hs → long_enough sheet table work ≡ true →
-      Exactly r (Accepted l) (0 ∷ 0 ∷ l ∷ 0 ∷ 0 ∷ 0 ∷ [])
+  pub accepted : (m : Module) (hs : List HostFn) (l : ℕ) → decode sheet ≡ Some m → decode_hosts hosts ≡ Some hs → long_enough sheet table work ≡ true →
+      Exactly r (Ok l) (0 ∷ 0 ∷ l ∷ 0 ∷ 0 ∷ 0 ∷ [])
       ((faults_of hs m ≡ []) × (l ≡ length (table_of hs m)))
   -- else refused for the first that is: its kind in four numbers, then its place
-  pub refused : (m : Module) (hs : List HostFn) (e : LoadError) (es : List LoadError) → decode sheet ≡ some m → decode_hosts hosts ≡ some hs →
+  pub refused : (m : Module) (hs : List HostFn) (e : LoadError) (es : List LoadError) → decode sheet ≡ Some m → decode_hosts hosts ≡ Some hs →
       long_enough sheet table work ≡ true → faults_of hs m ≡ e ∷ es →
-      (r ≡ Refused e) × (numbers r ≡ kind_numbers e.kind ++ (e.func ∷ e.pc ∷ []))
+      (r ≡ Err e) × (numbers r ≡ kind_numbers e.kind ++ (e.func ∷ e.pc ∷ []))
 
 -- the slices after the call
 pub record Slices (sheet hosts table work : List ℕ) (r : Loaded) (left work_left : List ℕ) : Type 0 where
   -- a refusal leaves the table as it was
-  pub kept : (e : LoadError) → r ≡ Refused e → left ≡ table
+  pub kept : (e : LoadError) → r ≡ Err e → left ≡ table
   -- acceptance with l words writes the linked table
-  pub linked : (l : ℕ) (m : Module) (hs : List HostFn) → r ≡ Accepted l → decode sheet ≡ some m → decode_hosts hosts ≡ some hs →
+  pub linked : (l : ℕ) (m : Module) (hs : List HostFn) → r ≡ Ok l → decode sheet ≡ Some m → decode_hosts hosts ≡ Some hs →
       take l left ≡ table_of hs m
   -- and changes the first l words only
-  pub rest : (l : ℕ) → r ≡ Accepted l → drop l left ≡ drop l table
+  pub rest : (l : ℕ) → r ≡ Ok l → drop l left ≡ drop l table
   -- 1, 23 and 24 leave work as it was
   pub work_kept : is_early r ≡ true → work_left ≡ work
   -- after any other answer it is zero
@@ -106,14 +104,14 @@ pub record FamilyAsked (m : Module) (table : List ℕ) : Type 0 where
 -- of every call that accepts an intact sheet with l words, on what it left and on any words that begin so
 unfoldable pub FamilyRight : Type 0
 FamilyRight =
-    (sheet hosts table work : List ℕ) (l : ℕ) (left work_left : List ℕ) (m : Module) → decode sheet ≡ some m →
-    Loads sheet hosts table work (Accepted l) left work_left → (words : List ℕ) → Begins l left words → FamilyAsked m words
+    (sheet hosts table work : List ℕ) (l : ℕ) (left work_left : List ℕ) (m : Module) → decode sheet ≡ Some m →
+    Loads sheet hosts table work (Ok l) left work_left → (words : List ℕ) → Begins l left words → FamilyAsked m words
 
 -- ── demand 3: numbering does not matter ──
 
 -- 24 is not answered
 unfoldable pub NotShort : Loaded → Type 0
-NotShort r = r ≡ Refused (in_module ShortSlice) → ⊥
+NotShort r = r ≡ Err (in_module ShortSlice) → ⊥
 
 -- what two tables have in common; r takes each type of the first sheet to its number in the second
 pub record AgreeAsked (r : List ℕ) (m : Module) (left left_also : List ℕ) : Type 0 where
@@ -131,7 +129,7 @@ pub record AgreeAsked (r : List ℕ) (m : Module) (left left_also : List ℕ) : 
 -- both accepted or both refused; accepted with l and k words, what they left agrees, and so do any words that begin so
 pub record Alike (r : List ℕ) (m : Module) (x y : Loaded) (left left_also : List ℕ) : Type 0 where
   pub together : is_accepted x ≡ is_accepted y
-  pub agree : (l k : ℕ) → x ≡ Accepted l → y ≡ Accepted k → (words words_also : List ℕ) → Begins l left words → Begins k left_also words_also →
+  pub agree : (l k : ℕ) → x ≡ Ok l → y ≡ Ok k → (words words_also : List ℕ) → Begins l left words → Begins k left_also words_also →
       AgreeAsked r m words words_also
 
 -- of every two calls under one host list on sheets that differ by one renumbering, whatever the slices hold

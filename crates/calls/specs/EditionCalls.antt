@@ -1,10 +1,8 @@
 -- The edition of a sheet, said of what calls of `load` answer.
-use Rattle.std.specs.Prelude.{ℕ, ◌≡◌, true, List, length}
-use Rattle.std.proofs.Math.Option.{some}
+use Rattle.std.specs.Prelude.{ℕ, ◌≡◌, true, List, length, Some, Err}
 use Rattle.blocks.specs.Blocks.{words, edition_word}
 use Rattle.error.specs.declared.LoadErrorKind.TheVariants.{Decode, BadHostList}
-use Rattle.error.specs.declared.Loaded.{Loaded}
-use Rattle.error.specs.declared.Loaded.TheVariants.{Refused}
+use Rattle.error.specs.Answer.{Loaded}
 use Rattle.error.specs.Answer.{in_module, first}
 use Rattle.sheet.specs.Module.{Module}
 use Rattle.sheet.specs.Decode.{decode}
@@ -25,14 +23,14 @@ answer_under most hosts m = first (length (table_words most hosts m)) (module_fa
 -- what the edition decides of an answer
 pub record EditionAnswered (sheet hosts : List ℕ) (table work : ℕ) (r : Loaded) : Type 0 where
   -- a sheet of any other edition than 1 and 2 is refused with 1
-  pub other_sheet : (stated_edition sheet ≡ 1 → ⊥) → (stated_edition sheet ≡ 2 → ⊥) → r ≡ Refused (in_module Decode)
+  pub other_sheet : (stated_edition sheet ≡ 1 → ⊥) → (stated_edition sheet ≡ 2 → ⊥) → r ≡ Err (in_module Decode)
   -- a host list of any other edition than 1 is refused with 23
-  pub other_hosts : (m : Module) → decode sheet ≡ some m → (stated_edition hosts ≡ 1 → ⊥) → r ≡ Refused (in_module BadHostList)
+  pub other_hosts : (m : Module) → decode sheet ≡ Some m → (stated_edition hosts ≡ 1 → ⊥) → r ≡ Err (in_module BadHostList)
   -- in edition 1 a chain has at most 256 types
-  pub first256 : (m : Module) (hs : List HostFn) → decode sheet ≡ some m → decode_hosts hosts ≡ some hs →
+  pub first256 : (m : Module) (hs : List HostFn) → decode sheet ≡ Some m → decode_hosts hosts ≡ Some hs →
       long_enough sheet table work ≡ true → stated_edition sheet ≡ 1 → r ≡ answer_under 256 hs m
   -- in edition 2 at most 64
-  pub second64 : (m : Module) (hs : List HostFn) → decode sheet ≡ some m → decode_hosts hosts ≡ some hs →
+  pub second64 : (m : Module) (hs : List HostFn) → decode sheet ≡ Some m → decode_hosts hosts ≡ Some hs →
       long_enough sheet table work ≡ true → stated_edition sheet ≡ 2 → r ≡ answer_under 64 hs m
 
 -- of every call

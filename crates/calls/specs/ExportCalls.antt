@@ -1,11 +1,9 @@
 -- The names of exports, said of what calls of `load` answer.
-use Rattle.std.specs.Prelude.{ℕ, ◌≤◌, ◌<◌, ◌≡◌, List, map, length}
-use Rattle.std.proofs.Math.Option.{some}
+use Rattle.std.specs.Prelude.{ℕ, ◌≤◌, ◌<◌, ◌≡◌, List, map, length, Some, Err, Ok}
 use Rattle.lists.specs.Lists.{concat_map}
 use Rattle.error.specs.declared.StrId.{StrId}
 use Rattle.error.specs.declared.LoadErrorKind.TheVariants.{ExportNameOutOfRange, DuplicateExport}
-use Rattle.error.specs.declared.Loaded.{Loaded}
-use Rattle.error.specs.declared.Loaded.TheVariants.{Accepted, Refused}
+use Rattle.error.specs.Answer.{Loaded}
 use Rattle.error.specs.Answer.{in_module}
 use Rattle.sheet.specs.Module.{Module}
 use Rattle.sheet.specs.Decode.{decode}
@@ -40,16 +38,16 @@ pub record Repeats (m : Module) (i : ℕ) : Type 0 where
 -- what the names of exports decide of an answer to a sheet that holds m
 pub record NamesAnswered (sheet : List ℕ) (m : Module) (r : Loaded) : Type 0 where
   -- in edition 2 acceptance means that every name picks its export
-  pub accepted : (l : ℕ) → stated_edition sheet ≡ 2 → r ≡ Accepted l → NamesPick m
+  pub accepted : (l : ℕ) → stated_edition sheet ≡ 2 → r ≡ Ok l → NamesPick m
   -- 27 is of edition 2 and has the number of a name that is no string
-  pub out_of_range : (name : StrId) → r ≡ Refused (in_module (ExportNameOutOfRange name)) → (stated_edition sheet ≡ 2) × NoString m name.0
+  pub out_of_range : (name : StrId) → r ≡ Err (in_module (ExportNameOutOfRange name)) → (stated_edition sheet ≡ 2) × NoString m name.0
   -- 28 is of edition 2 and has the place of the first export whose name was there before
-  pub duplicate : (i : ℕ) → r ≡ Refused (in_module (DuplicateExport i)) → (stated_edition sheet ≡ 2) × Repeats m i
+  pub duplicate : (i : ℕ) → r ≡ Err (in_module (DuplicateExport i)) → (stated_edition sheet ≡ 2) × Repeats m i
   -- edition 1 leaves names unread: of an export only the index is judged
   pub unread : stated_edition sheet ≡ 1 → exports_faults m ≡ map in_module (concat_map (index_faults m) m.exports)
 
 -- of every call
 unfoldable pub NamesRight : Type 0
 NamesRight =
-    (sheet hosts table work : List ℕ) (r : Loaded) (left work_left : List ℕ) (m : Module) → decode sheet ≡ some m →
+    (sheet hosts table work : List ℕ) (r : Loaded) (left work_left : List ℕ) (m : Module) → decode sheet ≡ Some m →
     Loads sheet hosts table work r left work_left → NamesAnswered sheet m r

@@ -6,9 +6,8 @@ ghost use Rattle.family_calls.specs.FamilyCalls.{AsksSize, AsksSizeNumbers, Coun
 ghost use Rattle.family_calls.specs.LengthCalls.{AsksLengthNumbers};
 ghost use Rattle.family_calls.specs.NearestCalls.{AsksNearest, AsksNearestNumbers};
 
-use descends::{ChainLength, FamilySize, NearestFamily};
-use error::{Loaded, TypeId};
-use families::StructCount;
+use descends::QueryError;
+use error::{LoadError, TypeId};
 use family_sheets::count_structs;
 use loader::load;
 use paqlluri::lengths::paqlluri_chain_length;
@@ -17,7 +16,12 @@ use paqlluri::{paqlluri_count_structs, paqlluri_descends, paqlluri_family_size, 
 use query::{chain_length, descends, family_size};
 use query_nearest::nearest;
 
-pub fn call(sheet: &[u8], hosts: &[u8], table: &mut [u32], work: &mut [u32]) -> Loaded
+pub fn call(
+    sheet: &[u8],
+    hosts: &[u8],
+    table: &mut [u32],
+    work: &mut [u32],
+) -> Result<u32, LoadError>
     ensures { Loads sheet.now hosts.now table.old work.old
         result table.new work.new }
 {
@@ -30,25 +34,25 @@ pub fn ask(table: &[u32], t: TypeId, a: TypeId) -> u32
     descends(table, t, a)
 }
 
-pub fn ask_size(table: &[u32], a: TypeId) -> FamilySize
+pub fn ask_size(table: &[u32], a: TypeId) -> Result<u32, QueryError>
     ensures { AsksSize table.now a.0 result }
 {
     family_size(table, a)
 }
 
-pub fn ask_length(table: &[u32], t: TypeId) -> ChainLength
+pub fn ask_length(table: &[u32], t: TypeId) -> Result<u32, QueryError>
     ensures { AsksLength table.now t.0 result }
 {
     chain_length(table, t)
 }
 
-pub fn ask_nearest(table: &[u32], t: TypeId, u: TypeId) -> NearestFamily
+pub fn ask_nearest(table: &[u32], t: TypeId, u: TypeId) -> Result<Option<TypeId>, QueryError>
     ensures { AsksNearest table.now t.0 u.0 result }
 {
     nearest(table, t, u)
 }
 
-pub fn count(sheet: &[u8]) -> StructCount
+pub fn count(sheet: &[u8]) -> Option<u32>
     ensures { CountsStructs sheet.now result }
 {
     count_structs(sheet)

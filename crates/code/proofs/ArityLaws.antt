@@ -1,9 +1,8 @@
 -- What the arity test says of a least and a greatest number, and which numbers an import gives it.
-use Rattle.std.specs.Prelude.{ℕ, ◌≤◌, ◌<◌, ◌≡◌, refl, List, [], ◌∷◌, ◌++◌, Bool, true, false, not, eqb, leb, length}
+use Rattle.std.specs.Prelude.{ℕ, ◌≤◌, ◌<◌, ◌≡◌, refl, List, [], ◌∷◌, ◌++◌, Bool, true, false, not, eqb, leb, length, None, Some}
 use Rattle.std.proofs.Common.{sym, ◌∙◌, arith, le-leb, eq-eqb, ne_eqb}
 use Rattle.std.proofs.Math.Path.{ap, ap₂}
 use Rattle.std.proofs.Math.Bool.{cond}
-use Rattle.std.proofs.Math.Option.{none, some}
 use Rattle.std.proofs.Math.Decide.{dec_lt}
 use Rattle.std.proofs.lemmas.Bool.{lt-leb}
 use Rattle.lists.specs.ListLaws.{keep_few}
@@ -84,15 +83,15 @@ module _ (m : Module) (i : Import) where
   fewest_mandatory e = by_edition true e
 
 -- they are no more than the most, where the list fits the signature
-pub fewest_few : (m : Module) (i : Import) → ((ps : List Param) → i.params ≡ some ps → length ps ≡ most_arguments m i) →
+pub fewest_few : (m : Module) (i : Import) → ((ps : List Param) → i.params ≡ Some ps → length ps ≡ most_arguments m i) →
     fewest_arguments m i ≤ most_arguments m i
 unfolding mandatory
 fewest_few m i h = go (may_leave_out m.edition) refl i.params refl
   where
     go : (b : Bool) → may_leave_out m.edition ≡ b → (l : ParamList) → i.params ≡ l → fewest_arguments m i ≤ most_arguments m i
     go false e l q = omega (arith, fewest_all m i e)
-    go true e none q = omega (arith, fewest_mandatory m i e ∙ ap (λ (l : ParamList). mandatory l (most_arguments m i)) q)
-    go true e (some ps) q =
+    go true e None q = omega (arith, fewest_mandatory m i e ∙ ap (λ (l : ParamList). mandatory l (most_arguments m i)) q)
+    go true e (Some ps) q =
         omega (
           arith,
           fewest_mandatory m i e ∙ ap (λ (l : ParamList). mandatory l (most_arguments m i)) q,

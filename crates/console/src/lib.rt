@@ -12,10 +12,7 @@ use std::{fs, io, str};
 
 // The six numbers with single spaces and a line end.
 pub fn print_numbers(rt: &impl Print, n: SixNumbers) -> io::Result<()> {
-    println!(rt;
-        "{} {} {} {} {} {}",
-        n.kind, n.word, n.number, n.second, n.func, n.pc
-    )
+    println!(rt; "{n}")
 }
 
 // Reads until bytes is full, the input ends or a read fails, and returns how many bytes it put at the start of bytes.
@@ -72,4 +69,21 @@ pub fn argument(rt: &impl Env, i: usize, name: &mut [u8; 4096]) -> Option<usize>
         Err(FillError::TooLong) => Some(0),
         Err(FillError::NotPresent) => None,
     }
+}
+
+// Visits each argument, in order, up to the first error.
+pub fn each_argument<F: FnMut(&[u8]) -> io::Result<()>>(
+    rt: &impl Env,
+    mut visit: F,
+) -> io::Result<()>
+    requires { F.IsAlwaysCallable visit }
+{
+    for i in 1..usize::MAX {
+        let mut name = [0u8; 4096];
+        match argument(rt, i, &mut name) {
+            Some(n) => visit(&name[..n])?,
+            None => break,
+        }
+    }
+    Ok(())
 }

@@ -1,11 +1,9 @@
 -- Cases by computing, on lent words that no load wrote.
-use Rattle.std.specs.Prelude.{ℕ, ◌≡◌, refl, List, [], ◌∷◌, true, false, cond}
+use Rattle.std.specs.Prelude.{ℕ, ◌≡◌, refl, List, [], ◌∷◌, true, false, cond, Err, Ok}
 use Rattle.lists.specs.Best.{winner, best}
-use Rattle.descends.specs.declared.FamilySize.TheVariants.{Size, NotLinked}
+use Rattle.descends.specs.declared.QueryError.TheVariants.{NotLinked}
 use Rattle.descends.specs.Descends.{table_length, spans_start, span_count, spans_end, is_linked}
 use Rattle.descends.specs.Descends.{pre_in, post_in, length_in, if_known, is_within}
-use Rattle.descends.specs.declared.ChainLength.TheVariants.{Length}
-use Rattle.descends.specs.declared.ChainLength.TheVariants as len
 use Rattle.descends.specs.Lengths.{chain_length_in, length_numbers}
 use Rattle.descends.specs.Sizes.{width_in, size_in, size_numbers}
 use Rattle.descends.specs.Nearest.{holds_both, is_narrower, nearest_of, family_of, nearest_in, nearest_numbers}
@@ -20,22 +18,22 @@ abbrev lent : List ℕ
 lent = 2 ∷ 20 ∷ 0 ∷ 0 ∷ 0 ∷ 0 ∷ 0 ∷ 0 ∷ 0 ∷ 10 ∷ 3 ∷ 0 ∷ 3 ∷ 1 ∷ 2 ∷ 2 ∷ 9 ∷ 5 ∷ 1 ∷ 4294967295 ∷ []
 
 -- a number that is no type has size 0, and so has a span that ends before it begins; no words are no linked table
-sizes : (size_in lent 0 ≡ Size 3) × (size_in lent 1 ≡ Size 0) × (size_in lent 2 ≡ Size 0)
-    × (size_in lent 3 ≡ Size 0) × (size_in [] 9 ≡ NotLinked)
+sizes : (size_in lent 0 ≡ Ok 3) × (size_in lent 1 ≡ Ok 0) × (size_in lent 2 ≡ Ok 0)
+    × (size_in lent 3 ≡ Ok 0) × (size_in [] 9 ≡ Err NotLinked)
 unfolding read size_in if_known
 sizes = (refl, refl, refl, refl, refl)
 
-size_numbered : (size_numbers (Size 3) ≡ 0 ∷ 3 ∷ []) × (size_numbers NotLinked ≡ 25 ∷ 0 ∷ [])
+size_numbered : (size_numbers (Ok 3) ≡ 0 ∷ 3 ∷ []) × (size_numbers (Err NotLinked) ≡ 25 ∷ 0 ∷ [])
 unfolding size_numbers
 size_numbered = (refl, refl)
 
 -- the third word, whatever stands there; a number that is no type has length 0
-lengths : (chain_length_in lent 0 ≡ Length 1) × (chain_length_in lent 1 ≡ Length 9) × (chain_length_in lent 2 ≡ Length 4294967295)
-    × (chain_length_in lent 3 ≡ Length 0) × (chain_length_in [] 9 ≡ len.NotLinked)
+lengths : (chain_length_in lent 0 ≡ Ok 1) × (chain_length_in lent 1 ≡ Ok 9) × (chain_length_in lent 2 ≡ Ok 4294967295)
+    × (chain_length_in lent 3 ≡ Ok 0) × (chain_length_in [] 9 ≡ Err NotLinked)
 unfolding read chain_length_in length_in if_known
 lengths = (refl, refl, refl, refl, refl)
 
-length_numbered : (length_numbers (Length 3) ≡ 0 ∷ 3 ∷ []) × (length_numbers len.NotLinked ≡ 25 ∷ 0 ∷ [])
+length_numbered : (length_numbers (Ok 3) ≡ 0 ∷ 3 ∷ []) × (length_numbers (Err NotLinked) ≡ 25 ∷ 0 ∷ [])
 unfolding length_numbers
 length_numbered = (refl, refl)
 

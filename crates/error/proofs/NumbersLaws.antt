@@ -9,8 +9,8 @@ use Rattle.error.specs.declared.LoadErrorKind.{LoadErrorKind}
 use Rattle.error.specs.declared.LoadErrorKind.TheVariants.{UnresolvedImport, OutOfRange, ArityMismatch, WrongTypeKind, BadHook}
 use Rattle.error.specs.declared.LoadErrorKind.TheVariants.{ExportNameOutOfRange, DuplicateExport}
 use Rattle.error.specs.declared.LoadError.{LoadError}
-use Rattle.error.specs.declared.Loaded.{Loaded}
-use Rattle.error.specs.declared.Loaded.TheVariants.{Accepted, Refused}
+use Rattle.error.specs.Answer.{Loaded}
+use Rattle.std.specs.Prelude.{Err, Ok}
 use Rattle.error.specs.Answer.{what_word, type_kind_word, kind_numbers, numbers}
 
 pub by_kind : {six : List ℕ} {k : LoadErrorKind} (K : LoadErrorKind) (f p : ℕ) → k ≡ K → six ≡ kind_numbers K ++ (f ∷ p ∷ []) →
@@ -44,11 +44,11 @@ module _ {six : List ℕ} {k : LoadErrorKind} (f p : ℕ) where
 
 pub ruleset payloads = (by_import, by_range, by_arity, by_wanted, by_hook, by_name, by_repeat)
 
-pub by_accepted : {six : List ℕ} {a : Loaded} (l : ℕ) → a ≡ Accepted l → six ≡ 0 ∷ 0 ∷ l ∷ 0 ∷ 0 ∷ 0 ∷ [] → six ≡ numbers a
+pub by_accepted : {six : List ℕ} {a : Loaded} (l : ℕ) → a ≡ Ok l → six ≡ 0 ∷ 0 ∷ l ∷ 0 ∷ 0 ∷ 0 ∷ [] → six ≡ numbers a
 unfolding numbers
 by_accepted l e h = h ∙ ap numbers (sym e)
 
-pub by_refused : {six : List ℕ} {a : Loaded} (e : LoadError) → a ≡ Refused e → six ≡ kind_numbers e.kind ++ (e.func ∷ e.pc ∷ []) →
+pub by_refused : {six : List ℕ} {a : Loaded} (e : LoadError) → a ≡ Err e → six ≡ kind_numbers e.kind ++ (e.func ∷ e.pc ∷ []) →
     six ≡ numbers a
 unfolding numbers
 by_refused e k h = h ∙ ap numbers (sym k)

@@ -14,8 +14,8 @@ use Rattle.error.specs.declared.LoadErrorKind.TheVariants.{CatchNotDyn, TailCall
 use Rattle.error.specs.declared.LoadErrorKind.TheVariants.{BadHook, BadStart, BadParamList, BadCallShape, BadHostList, ShortSlice}
 use Rattle.error.specs.declared.LoadErrorKind.TheVariants.{NotLinked, MissedStruct, ExportNameOutOfRange, DuplicateExport}
 use Rattle.error.specs.declared.LoadError.{LoadError}
-use Rattle.error.specs.declared.Loaded.{Loaded}
-use Rattle.error.specs.declared.Loaded.TheVariants.{Accepted, Refused}
+use Rattle.error.specs.Answer.{Loaded}
+use Rattle.std.specs.Prelude.{Err, Ok}
 use Rattle.error.specs.Answer.{what_word, type_kind_word, kind_numbers, numbers}
 use Rattle.error.specs.Answer.{is_accepted, string_number, KindsListed, WordsListed, NumbersTell}
 
@@ -47,7 +47,7 @@ refusal_of six =
     record { kind = kind_of (get_or six 0 0) (get_or six 1 0) (get_or six 2 0) (get_or six 3 0); func = get_or six 4 0; pc = get_or six 5 0 }
 
 told : List ℕ → Loaded
-told six = cond (eqb (get_or six 0 0) 0) (Accepted (get_or six 2 0)) (Refused (refusal_of six))
+told six = cond (eqb (get_or six 0 0) 0) (Ok (get_or six 2 0)) (Err (refusal_of six))
 
 -- ── each case by computing ──
 
@@ -75,11 +75,11 @@ wanted_told Array = refl
 wanted_told Map = refl
 wanted_told Cell = refl
 
-refused_told : (k : LoadErrorKind) (f p : ℕ) → told (kind_numbers k ++ (f ∷ p ∷ [])) ≡ Refused (record { kind = k; func = f; pc = p })
+refused_told : (k : LoadErrorKind) (f p : ℕ) → told (kind_numbers k ++ (f ∷ p ∷ [])) ≡ Err (record { kind = k; func = f; pc = p })
 unfolding told refusal_of kind_of kind_numbers
 refused_told Decode f p = refl
 refused_told (UnresolvedImport m n) f p = refl
-refused_told (OutOfRange what i) f p = ap (λ w. Refused (record { kind = OutOfRange w i; func = f; pc = p })) (what_told what)
+refused_told (OutOfRange what i) f p = ap (λ w. Err (record { kind = OutOfRange w i; func = f; pc = p })) (what_told what)
 refused_told BadSignature f p = refl
 refused_told ParamMismatch f p = refl
 refused_told EmptyCode f p = refl
@@ -87,7 +87,7 @@ refused_told FallsThrough f p = refl
 refused_told (ArityMismatch expected found) f p = refl
 refused_told CalleeHasCaptures f p = refl
 refused_told PromoteNotDynamic f p = refl
-refused_told (WrongTypeKind wanted) f p = ap (λ w. Refused (record { kind = WrongTypeKind w; func = f; pc = p })) (wanted_told wanted)
+refused_told (WrongTypeKind wanted) f p = ap (λ w. Err (record { kind = WrongTypeKind w; func = f; pc = p })) (wanted_told wanted)
 refused_told BadModifier f p = refl
 refused_told InvalidHandler f p = refl
 refused_told CatchNotDyn f p = refl
@@ -108,8 +108,8 @@ refused_told (DuplicateExport i) f p = refl
 
 numbers_told : (r : Loaded) → told (numbers r) ≡ r
 unfolding told numbers
-numbers_told (Accepted l) = refl
-numbers_told (Refused e) = refused_told e.kind e.func e.pc
+numbers_told (Ok l) = refl
+numbers_told (Err e) = refused_told e.kind e.func e.pc
 
 -- ── theorems ──
 
@@ -125,7 +125,7 @@ pub words_listed : WordsListed
 unfolding WordsListed what_word type_kind_word
 words_listed = (refl, refl)
 
-by_first : (b : Bool) (l : ℕ) (e : LoadError) → is_accepted (cond b (Accepted l) (Refused e)) ≡ b
+by_first : (b : Bool) (l : ℕ) (e : LoadError) → is_accepted (cond b (Ok l) (Err e)) ≡ b
 unfolding is_accepted
 by_first true l e = refl
 by_first false l e = refl

@@ -1,21 +1,27 @@
 -- What a rule finds of all that is broken, and what a group of rules finds: the first.
-use Rattle.std.specs.Prelude.{List, [], ◌∷◌}
+use Rattle.std.specs.Prelude.{⊤, Result, List, [], ◌∷◌}
 use Rattle.error.specs.declared.LoadErrorKind.{LoadErrorKind}
 use Rattle.error.specs.declared.LoadError.{LoadError}
-use Rattle.error.specs.declared.Verdict.{Verdict}
-use Rattle.error.specs.declared.Verdict.TheVariants.{Holds, Broken}
-use Rattle.error.specs.declared.Judged.{Judged}
-use Rattle.error.specs.declared.Judged.TheVariants.{Passed, Refused}
+use Rattle.std.specs.Prelude.{Err, Ok}
+use Rattle.std.specs.Prelude.{Err, Ok}
+
+-- what a rule finds: that it holds, or how it is broken first
+abbrev pub Verdict : Type 0
+Verdict = Result ⊤ LoadErrorKind
+
+-- what a group of rules finds: that they hold, or what is broken first, and its place
+abbrev pub Judged : Type 0
+Judged = Result ⊤ LoadError
 
 unfoldable pub verdict_of : List LoadErrorKind → Verdict
-verdict_of [] = Holds
-verdict_of (k ∷ ks) = Broken k
+verdict_of [] = (Ok tt)
+verdict_of (k ∷ ks) = Err k
 
 unfoldable pub judged_of : List LoadError → Judged
-judged_of [] = Passed
-judged_of (e ∷ es) = Refused e
+judged_of [] = (Ok tt)
+judged_of (e ∷ es) = Err e
 
 -- a verdict, and its place
 unfoldable pub placed : (LoadErrorKind → LoadError) → Verdict → Judged
-placed place Holds = Passed
-placed place (Broken k) = Refused (place k)
+placed place (Ok tt) = (Ok tt)
+placed place (Err k) = Err (place k)

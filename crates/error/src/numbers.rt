@@ -3,9 +3,10 @@ ghost use Rattle.std.specs.Prelude.{◌≡◌, [], ◌∷◌, ◌++◌};
 ghost use Rattle.error.specs.Answer.{what_word, type_kind_word, kind_numbers, numbers};
 ghost use Rattle.error.specs.Numbers.{six_of};
 
-use crate::{LoadErrorKind, Loaded, TypeKind, What};
+use crate::{LoadError, LoadErrorKind, TypeKind, What};
+use std::fmt;
 
-#[derive(Clone, Copy)]
+#[derive(Clone, Copy, PartialEq, Eq)]
 pub struct SixNumbers {
     pub kind: u32,
     pub word: u32,
@@ -13,6 +14,17 @@ pub struct SixNumbers {
     pub second: u32,
     pub func: u32,
     pub pc: u32,
+}
+
+// With single spaces between them.
+impl fmt::Display for SixNumbers {
+    fn fmt<W: fmt::Write>(&self, f: &mut fmt::Formatter<W>) -> fmt::Result {
+        write!(
+            f,
+            "{} {} {} {} {} {}",
+            self.kind, self.word, self.number, self.second, self.func, self.pc
+        )
+    }
 }
 
 fn what_word(what: What) -> u32
@@ -51,12 +63,12 @@ fn at(kind: u32, word: u32, number: u32, second: u32, func: u32, pc: u32) -> Six
     ensures { six_of result ≡ kind ∷ word ∷ number ∷ second ∷ func ∷ pc ∷ [] }
 {
     SixNumbers {
-        kind: kind,
-        word: word,
-        number: number,
-        second: second,
-        func: func,
-        pc: pc,
+        kind,
+        word,
+        number,
+        second,
+        func,
+        pc,
     }
 }
 
@@ -96,14 +108,11 @@ fn refusal(k: LoadErrorKind, func: u32, pc: u32) -> SixNumbers
 }
 
 // Of an answer: kind, word, number, second, function + 1, position + 1; unused ones are 0.
-pub fn numbers(a: Loaded) -> SixNumbers
+pub fn numbers(a: Result<u32, LoadError>) -> SixNumbers
     ensures { six_of result ≡ numbers a }
 {
     match a {
-        Loaded::Accepted(l) => at(0, 0, l, 0, 0, 0),
-        Loaded::Refused(e) => {
-            let k = e.kind;
-            refusal(k, e.func, e.pc)
-        }
+        Ok(l) => at(0, 0, l, 0, 0, 0),
+        Err(e) => refusal(e.kind, e.func, e.pc),
     }
 }

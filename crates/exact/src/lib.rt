@@ -5,11 +5,23 @@ ghost use Rattle.std.specs.Prelude.{◌≡◌, ◌<◌};
 ghost use Rattle.exact.specs.Adding.{Spare, Added};
 ghost use Rattle.exact.specs.Exact.{value_of};
 
+use std::fmt;
+
 // high × 10^18 + low: in print the low word takes 18 digits behind a high word that is not 0.
 #[derive(Clone, Copy)]
 pub struct Total {
     pub high: u64,
     pub low: u64,
+}
+
+// All digits: 18 of the low word behind a high word that is not 0.
+impl fmt::Display for Total {
+    fn fmt<W: fmt::Write>(&self, f: &mut fmt::Formatter<W>) -> fmt::Result {
+        if self.high == 0 {
+            return write!(f, "{}", self.low);
+        }
+        write!(f, "{}{:018}", self.high, self.low % 1000000000000000000)
+    }
 }
 
 pub fn nothing() -> Total

@@ -1,10 +1,8 @@
 -- Cases by computing: structs 0 and 1 below struct 2, a type that is no struct, and a root of its own.
-use Rattle.std.specs.Prelude.{ℕ, ◌≡◌, refl, List, [], ◌∷◌, true, false}
-use Rattle.std.proofs.Math.Option.{none, some}
+use Rattle.std.specs.Prelude.{ℕ, ◌≡◌, refl, List, [], ◌∷◌, true, false, None, Some}
 use Rattle.sheet.specs.Module.{TypeDef, struct, coroutine, type_at, kind_word, struct_of, is_struct}
 use Rattle.lists.specs.Best.{winner, best}
 use Rattle.parents.specs.Forest.{struct_entry, entry_of, entry, entry_at, parents, walk, chain, chain_length}
-use Rattle.families.specs.declared.StructCount.TheVariants.{Structs}
 use Rattle.families.specs.Families.{is_from, family, family_size, struct_count, struct_numbers, family_depth}
 use Rattle.families.specs.Families.{common_families, is_deeper, nearest, last_of, root_of, have_one_root}
 use Rattle.families.specs.Counted.{counted_of, count_numbers}
@@ -47,9 +45,9 @@ unfolding computed family_depth chain_length
 depths = (refl, refl, refl, refl, refl)
 
 -- the longest chain, not the shortest; a parent, itself; roots that differ, no struct, no type
-nearests : (nearest 256 tall 2 3 ≡ some 1) × (nearest 256 tall 3 1 ≡ some 1) × (nearest 256 tall 0 2 ≡ some 0)
-    × (nearest 256 sample 0 1 ≡ some 2) × (nearest 256 sample 0 0 ≡ some 0) × (nearest 256 sample 0 4 ≡ none)
-    × (nearest 256 sample 3 3 ≡ none) × (nearest 256 sample 5 0 ≡ none) × (nearest 256 sample 0 5 ≡ none)
+nearests : (nearest 256 tall 2 3 ≡ Some 1) × (nearest 256 tall 3 1 ≡ Some 1) × (nearest 256 tall 0 2 ≡ Some 0)
+    × (nearest 256 sample 0 1 ≡ Some 2) × (nearest 256 sample 0 0 ≡ Some 0) × (nearest 256 sample 0 4 ≡ None)
+    × (nearest 256 sample 3 3 ≡ None) × (nearest 256 sample 5 0 ≡ None) × (nearest 256 sample 0 5 ≡ None)
 unfolding computed nearest common_families is_deeper chain_length best winner
 nearests = (refl, refl, refl, refl, refl, refl, refl, refl, refl)
 
@@ -58,6 +56,6 @@ rooted : (root_of 256 tall 3 ≡ 0) × (have_one_root 256 tall 3 0 ≡ true) × 
 unfolding computed have_one_root root_of last_of
 rooted = (refl, refl, refl, refl, refl)
 
-counts : (count_numbers (counted_of none) ≡ 1 ∷ 0 ∷ []) × (count_numbers (Structs 4) ≡ 0 ∷ 4 ∷ [])
+counts : (count_numbers (counted_of None) ≡ 1 ∷ 0 ∷ []) × (count_numbers (Some 4) ≡ 0 ∷ 4 ∷ [])
 unfolding count_numbers counted_of
 counts = (refl, refl)

@@ -1,20 +1,17 @@
 -- The struct types of a sheet in bytes, counted from its declarations.
-use Rattle.std.specs.Prelude.{ℕ, List, [], ◌∷◌}
-use Rattle.std.proofs.Math.Option.{Option, none, some}
+use Rattle.std.specs.Prelude.{ℕ, List, [], ◌∷◌, Option, None, Some}
 use Rattle.sheet.specs.Module.{Module}
 use Rattle.sheet.specs.Decode.{decode}
 use Rattle.families.specs.Families.{struct_count}
-use Rattle.families.specs.declared.StructCount.{StructCount}
-use Rattle.families.specs.declared.StructCount.TheVariants.{Structs, Broken}
 
-unfoldable pub counted_of : Option Module → StructCount
-counted_of none = Broken
-counted_of (some m) = Structs (struct_count m.types)
+unfoldable pub counted_of : Option Module → Option ℕ
+counted_of None = None
+counted_of (Some m) = Some (struct_count m.types)
 
-unfoldable pub structs_in : List ℕ → StructCount
+unfoldable pub structs_in : List ℕ → Option ℕ
 structs_in sheet = counted_of (decode sheet)
 
 -- kind and number
-unfoldable pub count_numbers : StructCount → List ℕ
-count_numbers (Structs n) = 0 ∷ n ∷ []
-count_numbers Broken = 1 ∷ 0 ∷ []
+unfoldable pub count_numbers : Option ℕ → List ℕ
+count_numbers (Some n) = 0 ∷ n ∷ []
+count_numbers None = 1 ∷ 0 ∷ []

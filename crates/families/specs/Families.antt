@@ -1,7 +1,6 @@
 -- Families by declared parents: who descends from whom, how many do, how deep one is, and the nearest of two.
 -- `most` is the most numbers on a chain.
-use Rattle.std.specs.Prelude.{ℕ, List, [], ◌∷◌, Bool, cond, ◌&&◌, eqb, ltb, length}
-use Rattle.std.proofs.Math.Option.{Option}
+use Rattle.std.specs.Prelude.{ℕ, List, [], ◌∷◌, Bool, cond, ◌&&◌, eqb, ltb, length, Option}
 use Rattle.lists.specs.Lists.{contains, from, keep, places_from}
 use Rattle.lists.specs.Best.{best}
 use Rattle.sheet.specs.Module.{TypeDef, type_at, is_struct}

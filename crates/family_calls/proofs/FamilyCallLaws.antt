@@ -1,8 +1,7 @@
 -- What is said of sizes and counts holds.
-use Rattle.std.specs.Prelude.{◌≡◌, Bool, true, false, cond, List, [], ◌∷◌, ◌++◌, map, T, eqb}
+use Rattle.std.specs.Prelude.{◌≡◌, Bool, true, false, cond, List, [], ◌∷◌, ◌++◌, map, T, eqb, Some, Ok, Err}
 use Rattle.std.proofs.Math.Path.{refl, sym, ap, subst, fun_ext}
 use Rattle.std.proofs.Common.{ap₂, ◌∙◌, arith}
-use Rattle.std.proofs.Math.Option.{some}
 use Prim.Native.Nat.{ℕ, ◌+◌, ◌≤◌}
 use Rattle.std.proofs.Math.ListN.{length}
 use Rattle.lists.specs.Lists.{keep, from, sum}
@@ -18,10 +17,8 @@ use Rattle.sheet.specs.Editions.{most_of}
 use Rattle.sheet.proofs.EditionLaws.{most_from_one}
 use Rattle.parents.specs.Parents.{parents_faults}
 use Rattle.spans.specs.Spans.{roots, no_pre}
-use Rattle.descends.specs.declared.FamilySize.TheVariants.{Size}
-use Rattle.descends.specs.Sizes.{width_in}
+use Rattle.descends.specs.Sizes.{FamilySize, width_in}
 use Rattle.families.specs.Families.{is_from, family, family_size, struct_count, struct_numbers}
-use Rattle.families.specs.declared.StructCount.TheVariants.{Structs}
 use Rattle.families.specs.Counted.{counted_of, structs_in}
 use Rattle.law_forest.specs.Once.{ChainRule}
 use Rattle.law_forest.proofs.AcceptedLaws.{chain_rule}
@@ -30,8 +27,7 @@ use Rattle.law_linked.specs.Sized.{query_from, width_is_size, size_answered}
 use Rattle.law_renumbering.specs.AllRules.{parents_kept}
 use Rattle.law_renumbering.proofs.Accepting.{types_few}
 use Rattle.calls.proofs.CallLaws.{of_left}
-use Rattle.error.specs.declared.Loaded.{Loaded}
-use Rattle.error.specs.declared.Loaded.TheVariants.{Accepted, Refused}
+use Rattle.error.specs.Answer.{Loaded}
 use Rattle.exact.specs.Exact.{value_of}
 use Rattle.parents.specs.Forest.{entry_at}
 use Rattle.load.proofs.KindLaws.{accepted}
@@ -48,13 +44,13 @@ is_one false = refl
 
 -- ── the count of a sheet ──
 
-counted_is : (sheet : List ℕ) (n : ℕ) (m : Module) → decode sheet ≡ some m → Structs n ≡ structs_in sheet → n ≡ struct_count m.types
+counted_is : (sheet : List ℕ) (n : ℕ) (m : Module) → decode sheet ≡ Some m → Some n ≡ structs_in sheet → n ≡ struct_count m.types
 unfolding structs_in counted_of
-counted_is sheet n m d e = let q : Structs n ≡ Structs (struct_count m.types) = e ∙ ap counted_of d in cc
+counted_is sheet n m d e = let q : Some n ≡ Some (struct_count m.types) = e ∙ ap counted_of d in cc
 
 -- ── on the table that load left ──
 
-module _ (sheet : List ℕ) (hosts : List HostFn) (m : Module) (d : decode sheet ≡ some m) (rest : List ℕ)
+module _ (sheet : List ℕ) (hosts : List HostFn) (m : Module) (d : decode sheet ≡ Some m) (rest : List ℕ)
     (kept : parents_faults (most_of m) m ≡ []) (few : length m.types ≤ no_pre) where
   abbrev left : List ℕ
   left = table_of hosts m ++ rest
@@ -94,7 +90,7 @@ module _ (sheet : List ℕ) (hosts : List HostFn) (m : Module) (d : decode sheet
     queried = λ a x q answer h n k.
         q.answers
         ∙ size_answered most hosts m rest kept one few a
-        ∙ ap Size
+        ∙ ap Ok
         (queried_size a (λ t. eqb (answer t) 1)
         (λ t.
         ap (λ y. eqb y 1) ((h t).answers ∙ query_from most hosts m rest kept one few t a)
@@ -102,11 +98,11 @@ module _ (sheet : List ℕ) (hosts : List HostFn) (m : Module) (d : decode sheet
     spans = λ a x q s.
         q.answers
         ∙ size_answered most hosts m rest kept one few a
-        ∙ ap Size (sym (width_is_size most hosts m rest kept one few a s) ∙ unfold width_in in refl);
+        ∙ ap Ok (sym (width_is_size most hosts m rest kept one few a s) ∙ unfold width_in in refl);
     others = λ a x q s.
         q.answers
         ∙ size_answered most hosts m rest kept one few a
-        ∙ ap Size (size_none most types rule a s);
+        ∙ ap Ok (size_none most types rule a s);
     roots_add_up = λ size h n c.
         sum_ext size (family_size most types)
         (λ a. same_size ((h a).answers ∙ size_answered most hosts m rest kept one few a)) (roots types)
@@ -114,7 +110,7 @@ module _ (sheet : List ℕ) (hosts : List HostFn) (m : Module) (d : decode sheet
         ∙ sym (counted_is sheet n m d c.answers);
   }
     where
-      same_size : {x y : ℕ} → Size x ≡ Size y → x ≡ y
+      same_size : {x y : ℕ} → ◌≡◌ {A = FamilySize} (Ok x) (Ok y) → x ≡ y
       same_size e = cc
 
 -- ── of every call ──
@@ -139,8 +135,8 @@ unfolding counted_module counting module_or
 counted_rule hosts sheet = go (judged hosts sheet) refl
   where
     go : (r : Loaded) → judged hosts sheet ≡ r → ModuleRule (counting r (module_or (decode sheet)))
-    go (Refused e) q = record { short = λ t h. absurd (no_types t (unfold no_module in h)) }
-    go (Accepted l) q =
+    go (Err e) q = record { short = λ t h. absurd (no_types t (unfold no_module in h)) }
+    go (Ok l) q =
         let k = (accepted sheet hosts program_room program_room l).0 (unfold judged in q) in
         let m = k.source in
         subst (λ o. ModuleRule (module_or o)) (sym k.decodes)

@@ -1,5 +1,5 @@
 -- What is said of chain lengths holds.
-use Rattle.std.specs.Prelude.{◌≡◌, List, [], ◌++◌, ℕ, suc, ◌≤◌, length}
+use Rattle.std.specs.Prelude.{◌≡◌, List, [], ◌++◌, ℕ, suc, ◌≤◌, length, Ok}
 use Rattle.std.proofs.Common.{sym, ap, ◌∙◌, arith}
 use Rattle.sheet.specs.Module.{Module}
 use Rattle.host.specs.Host.{HostFn}
@@ -7,8 +7,7 @@ use Rattle.sheet.specs.Editions.{most_of}
 use Rattle.sheet.proofs.EditionLaws.{most_from_one}
 use Rattle.parents.specs.Parents.{parents_faults}
 use Rattle.spans.specs.Spans.{no_pre}
-use Rattle.descends.specs.declared.ChainLength.{ChainLength}
-use Rattle.descends.specs.declared.ChainLength.TheVariants.{Length}
+use Rattle.descends.specs.Lengths.{ChainLength}
 use Rattle.table.specs.Table.{table_of}
 use Rattle.families.specs.Families.{is_from, family_depth}
 use Rattle.law_forest.specs.Once.{ChainRule}
@@ -35,21 +34,21 @@ module _ (hosts : List HostFn) (m : Module) (rest : List ℕ)
   rule : ChainRule (most_of m) m.types
   rule = chain_rule (most_of m) (most_from_one m.edition) m kept
 
-  says : (t : ℕ) {x : ChainLength} → AsksLength left t x → x ≡ Length (depth t)
+  says : (t : ℕ) {x : ChainLength} → AsksLength left t x → x ≡ Ok (depth t)
   says t q = q.answers ∙ length_answered (most_of m) hosts m rest t
 
-  told : (t : ℕ) {n : ℕ} → AsksLength left t (Length n) → n ≡ depth t
-  told t {n} q = let e : Length n ≡ Length (depth t) = says t q in cc
+  told : (t : ℕ) {n : ℕ} → AsksLength left t (Ok n) → n ≡ depth t
+  told t {n} q = let e : Ok n ≡ Ok (depth t) = says t q in cc
 
   lengths_left : LengthsAsked m left
   lengths_left = record {
     declared = λ t x q. says t q;
-    others = λ t x q s. says t q ∙ ap Length (depth_other (most_of m) m.types t s);
-    spans = λ t x q h. says t q ∙ ap Length (sym (word_is_depth (most_of m) hosts m rest t h));
-    at_roots = λ t x q k. says t q ∙ ap Length (depth_root (most_of m) m.types rule t k);
+    others = λ t x q s. says t q ∙ ap Ok (depth_other (most_of m) m.types t s);
+    spans = λ t x q h. says t q ∙ ap Ok (sym (word_is_depth (most_of m) hosts m rest t h));
+    at_roots = λ t x q k. says t q ∙ ap Ok (depth_root (most_of m) m.types rule t k);
     at_children = λ t p n x k a q.
         says t q
-        ∙ ap Length (depth_child (most_of m) m.types rule t p k ∙ ap suc (sym (told p a)));
+        ∙ ap Ok (depth_child (most_of m) m.types rule t p k ∙ ap suc (sym (told p a)));
     rising = λ t a n k d ne p q.
         let from = cond_one (is_from (most_of m) m.types t a)
         (sym (query_from (most_of m) hosts m rest kept (most_from_one m.edition) few t a) ∙ sym d.answers) in

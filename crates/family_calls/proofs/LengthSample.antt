@@ -1,9 +1,7 @@
 -- `lengths_right` and the lengths of `numbering_free` are about something: what is answered of the sample's sheet, and of one renumbered.
-use Rattle.std.specs.Prelude.{◌≡◌, refl, []}
+use Rattle.std.specs.Prelude.{◌≡◌, refl, [], Ok}
 use Rattle.std.proofs.Common.{sym, ◌∙◌}
-use Rattle.error.specs.declared.Loaded.TheVariants.{Accepted}
 use Rattle.host.specs.Host.{hosts_of}
-use Rattle.descends.specs.declared.ChainLength.TheVariants.{Length}
 use Rattle.descends.specs.Lengths.{chain_length_in}
 use Rattle.families.specs.Families.{family_depth}
 use Rattle.load.specs.Load.{work_after}
@@ -23,7 +21,7 @@ unfolding LengthsRight Begins everything
 asked = lengths_right sheet (hosts_of []) slice slice words left (work_after sheet (hosts_of []) slice slice) small refl calling left refl
 
 -- 0 is below 2, which is a root, and 3 is no struct
-told : (chain_length_in left 0 ≡ Length 2) × (chain_length_in left 2 ≡ Length 1) × (chain_length_in left 3 ≡ Length 0)
+told : (chain_length_in left 0 ≡ Ok 2) × (chain_length_in left 2 ≡ Ok 1) × (chain_length_in left 3 ≡ Ok 0)
 unfolding everything family_depth
 told = (
   asked.declared 0 (chain_length_in left 0) (record { answers = refl }),
@@ -39,12 +37,12 @@ agreed =
     let work = work_after sheet (hosts_of []) slice slice in
     let work_also = work_after turned (hosts_of []) slice slice in
     (numbering_free turn (hosts_of []) sheet turned pair
-    slice slice (Accepted words) left work calling (accepted_long words)
-    slice slice (Accepted words_also) left_also work_also calling_also (accepted_long words_also)
+    slice slice (Ok words) left work calling (accepted_long words)
+    slice slice (Ok words_also) left_also work_also calling_also (accepted_long words_also)
     ).agree words words_also refl refl left left_also refl refl
 
 -- 1, the image of 0, has its length
-carried : chain_length_in left_also 1 ≡ Length 2
+carried : chain_length_in left_also 1 ≡ Ok 2
 unfolding image
 carried =
     sym (agreed.lengths 0 (chain_length_in left 0) (chain_length_in left_also 1) (record { answers = refl }) (record { answers = refl }))

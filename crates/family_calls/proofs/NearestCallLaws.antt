@@ -1,9 +1,8 @@
 -- What is said of nearest families holds.
-use Rattle.std.specs.Prelude.{◌≡◌, refl, ◌↔◌, Bool, true, false, cond, List, [], ◌++◌, ℕ, ◌≤◌, T, length, drop}
+use Rattle.std.specs.Prelude.{◌≡◌, refl, ◌↔◌, Bool, true, false, cond, List, [], ◌++◌, ℕ, ◌≤◌, T, length, drop, Option, None, Some}
+use Rattle.std.specs.Prelude.{option_map, option_and_then, Ok}
 use Rattle.std.proofs.Math.Path.{sym, ap}
 use Rattle.std.proofs.Common.{◌∙◌, subst₂, arith}
-use Rattle.std.proofs.Math.Option.{Option, none, some, map, bind}
-use Rattle.error.specs.declared.Loaded.TheVariants.{Accepted}
 use Rattle.error.specs.declared.TypeId.{TypeId}
 use Rattle.error.specs.Answer.{type_number}
 use Rattle.sheet.specs.Module.{Module}
@@ -14,9 +13,7 @@ use Rattle.sheet.proofs.EditionLaws.{most_from_one}
 use Rattle.parents.specs.Parents.{parents_faults}
 use Rattle.spans.specs.Spans.{no_pre}
 use Rattle.descends.specs.Descends.{descends}
-use Rattle.descends.specs.declared.NearestFamily.{NearestFamily}
-use Rattle.descends.specs.declared.NearestFamily.TheVariants.{Found, NoFamily}
-use Rattle.descends.specs.Nearest.{family_of, nearest_in}
+use Rattle.descends.specs.Nearest.{NearestFamily, family_of, nearest_in}
 use Rattle.table.specs.Table.{table_of}
 use Rattle.families.specs.Families.{is_from, nearest}
 use Rattle.load.specs.Load.{faults_of}
@@ -37,34 +34,34 @@ use Rattle.family_calls.specs.NearestCalls.{family_image, NearestMoves, NearestN
 
 -- ── answers ──
 
-none_told : (o : Option ℕ) → (family_of o ≡ NoFamily) ↔ (o ≡ none)
+none_told : (o : Option ℕ) → (family_of o ≡ Ok None) ↔ (o ≡ None)
 unfolding family_of
-none_told none = (λ e. refl, λ e. refl)
-none_told (some f) = (
+none_told None = (λ e. refl, λ e. refl)
+none_told (Some f) = (
   λ e. let z : ◌≡◌ {A = ℕ} 0 1 = cc in absurd (omega arith),
   λ e. let z : ◌≡◌ {A = ℕ} 0 1 = cc in absurd (omega arith),
 )
 
-found_told : (o : Option ℕ) (f : ℕ) → (family_of o ≡ Found (type_number f)) ↔ (o ≡ some f)
+found_told : (o : Option ℕ) (f : ℕ) → (family_of o ≡ Ok (Some (type_number f))) ↔ (o ≡ Some f)
 unfolding family_of
-found_told none f = (
+found_told None f = (
   λ e. let z : ◌≡◌ {A = ℕ} 0 1 = cc in absurd (omega arith),
   λ e. let z : ◌≡◌ {A = ℕ} 0 1 = cc in absurd (omega arith),
 )
-found_told (some g) f = (
-  λ e. let q : type_number g ≡ type_number f = cc in ap (λ (i : TypeId). some i.0) q,
-  λ e. let q : g ≡ f = cc in ap (λ x. Found (type_number x)) q,
+found_told (Some g) f = (
+  λ e. let q : type_number g ≡ type_number f = cc in ap (λ (i : TypeId). Some i.0) q,
+  λ e. let q : g ≡ f = cc in ap (λ x. Ok (Some (type_number x))) q,
 )
 
-then_told : (o : Option ℕ) (next : ℕ → Option ℕ) → then_ask (family_of o) (λ f. family_of (next f)) ≡ family_of (bind o next)
-unfolding family_of then_ask bind
-then_told none next = refl
-then_told (some f) next = refl
+then_told : (o : Option ℕ) (next : ℕ → Option ℕ) → then_ask (family_of o) (λ f. family_of (next f)) ≡ family_of (option_and_then next o)
+unfolding family_of then_ask
+then_told None next = refl
+then_told (Some f) next = refl
 
-image_told : (r : List ℕ) (o : Option ℕ) → family_of (map (image r) o) ≡ family_image r (family_of o)
+image_told : (r : List ℕ) (o : Option ℕ) → family_of (option_map (image r) o) ≡ family_image r (family_of o)
 unfolding family_of family_image
-image_told r none = refl
-image_told r (some f) = refl
+image_told r None = refl
+image_told r (Some f) = refl
 
 one_true : (b : Bool) → (◌≡◌ {A = ℕ} (cond b 1 0) 1) ↔ T b
 one_true true = (λ e. tt, λ h. refl)
@@ -108,7 +105,7 @@ module _ (hosts : List HostFn) (m : Module) (rest : List ℕ) (s : Sound m) wher
       (λ h. o.0 (sym (from_told t a) ∙ sym e ∙ h), λ h. e ∙ from_told t a ∙ o.1 h)
 
   family_told : (t u f : ℕ) {z : NearestFamily} → z ≡ nearest_in (long_table hosts m rest) t u →
-      (z ≡ Found (type_number f)) ↔ (near t u ≡ some f)
+      (z ≡ Ok (Some (type_number f))) ↔ (near t u ≡ Some f)
   family_told t u f e =
       let o = found_told (near t u) f in
       (λ h. o.0 (sym (near_told t u) ∙ sym e ∙ h), λ h. e ∙ near_told t u ∙ o.1 h)
@@ -116,7 +113,7 @@ module _ (hosts : List HostFn) (m : Module) (rest : List ℕ) (s : Sound m) wher
   -- both descend from a exactly where the nearest family does
   both_told : (t u a x y : ℕ) (z : NearestFamily) → Asks (long_table hosts m rest) t a x → Asks (long_table hosts m rest) u a y →
       AsksNearest (long_table hosts m rest) t u z →
-      ((x ≡ 1) × (y ≡ 1)) ↔ ((f : ℕ) × (z ≡ Found (type_number f)) × Asks (long_table hosts m rest) f a 1)
+      ((x ≡ 1) × (y ≡ 1)) ↔ ((f : ℕ) × (z ≡ Ok (Some (type_number f))) × Asks (long_table hosts m rest) f a 1)
   both_told t u a x y z p q n =
       let b = nearest_both (most_of m) m.types (rule m s) t u a in
       let first = yes_told t a p.answers in
@@ -174,7 +171,7 @@ module _ (hosts : List HostFn) (r : List ℕ) (m : Module) (renumbers : T (is_re
 
   moved : (t u : ℕ) →
       nearest (most_of (renumber r m)) (renumber r m).types (image r t) (image r u)
-      ≡ map (image r) (nearest (most_of m) m.types t u)
+      ≡ option_map (image r) (nearest (most_of m) m.types t u)
   unfolding renumber
   moved t u =
       let b = bijection (length m.types) r (listed (length m.types) r renumbers) in
@@ -192,7 +189,7 @@ module _ (hosts : List HostFn) (r : List ℕ) (m : Module) (renumbers : T (is_re
 
 -- ── of every call ──
 
-sound : (sheet : List ℕ) (hosts : List HostFn) (m : Module) → decode sheet ≡ some m → faults_of hosts m ≡ [] → Sound m
+sound : (sheet : List ℕ) (hosts : List HostFn) (m : Module) → decode sheet ≡ Some m → faults_of hosts m ≡ [] → Sound m
 sound sheet hosts m d f = record { kept = parents_kept (most_of m) hosts m f; few = types_few sheet m d }
 
 pub nearest_right : NearestRight
@@ -201,7 +198,7 @@ nearest_right sheet hosts table work l left work_left m d c words b =
     of_left sheet hosts table work l left work_left c (NearestAsked m) m d words b λ hs f rest.
     nearest_left hs m rest (sound sheet hs m d f)
 
-pub accepted_long : (l : ℕ) → NotShort (Accepted l)
+pub accepted_long : (l : ℕ) → NotShort (Ok l)
 unfolding NotShort
 accepted_long l e = let z : ◌≡◌ {A = ℕ} 0 1 = cc in absurd (omega arith)
 
@@ -214,8 +211,8 @@ nearest_numbering_free r hosts first second w table work l left work_left c tabl
     let hs = o.host_list in
     let f = fronted first hosts table work l left work_left c m hs v.decodes o.lists ws b in
     let g = fronted second hosts table_also work_also k left_also work_left_also d (renumber r m) hs v.decodes_also o.lists ws_also e in
-    let alike = numbering_free r hosts first second w table work (Accepted l) left work_left c (accepted_long l)
-    table_also work_also (Accepted k) left_also work_left_also d (accepted_long k) in
+    let alike = numbering_free r hosts first second w table work (Ok l) left work_left c (accepted_long l)
+    table_also work_also (Ok k) left_also work_left_also d (accepted_long k) in
     let agree = subst₂ (AgreeAsked r m) f.fronts g.fronts (alike.agree l k refl refl ws ws_also b e) in
     subst₂ (NearestMoves r) (sym f.fronts) (sym g.fronts)
     (nearest_moves hs r m v.renumbering

@@ -1,11 +1,9 @@
 -- `nearest_right` and `nearest_numbering_free` are about something: what is then answered of the sample's sheet, and of one renumbered.
-use Rattle.std.specs.Prelude.{◌≡◌, refl, List, [], ◌∷◌, ℕ, get_or}
+use Rattle.std.specs.Prelude.{◌≡◌, refl, List, [], ◌∷◌, ℕ, get_or, Ok, None, Some}
 use Rattle.std.proofs.Common.{ap, ◌∙◌}
-use Rattle.error.specs.declared.Loaded.TheVariants.{Accepted}
 use Rattle.error.specs.Answer.{type_number, numbers}
 use Rattle.sheet.specs.Encode.{sheet_of}
 use Rattle.host.specs.Host.{hosts_of}
-use Rattle.descends.specs.declared.NearestFamily.TheVariants.{Found, NoFamily}
 use Rattle.descends.specs.Nearest.{nearest_in}
 use Rattle.families.specs.Families.{is_from, common_families, is_deeper, nearest}
 use Rattle.load.specs.Load.{load, table_after, work_after}
@@ -22,7 +20,7 @@ unfolding NearestRight Begins everything
 asked = nearest_right sheet (hosts_of []) slice slice words left (work_after sheet (hosts_of []) slice slice) small refl calling left refl
 
 -- 0 and 1 are below 2, 4 is a root of its own, and 3 is no struct
-told : (nearest_in left 0 1 ≡ Found (type_number 2)) × (nearest_in left 0 4 ≡ NoFamily) × (nearest_in left 0 3 ≡ NoFamily)
+told : (nearest_in left 0 1 ≡ Ok (Some (type_number 2))) × (nearest_in left 0 4 ≡ Ok None) × (nearest_in left 0 3 ≡ Ok None)
 unfolding everything nearest common_families is_deeper is_from
 told = (
   asked.declared 0 1 (nearest_in left 0 1) (record { answers = refl }),
@@ -48,7 +46,7 @@ pub pair : RenumberedSheet turn sheet turned
 unfolding everything
 pair = record { source = small; bytes = refl; intact = refl; renumbers = tt; written = refl }
 
-pub calling_also : Loads turned (hosts_of []) slice slice (Accepted words_also) left_also (work_after turned (hosts_of []) slice slice)
+pub calling_also : Loads turned (hosts_of []) slice slice (Ok words_also) left_also (work_after turned (hosts_of []) slice slice)
 unfolding everything
 calling_also = record { answers = refl; leaves = refl; clears = refl }
 
@@ -60,7 +58,7 @@ moved =
     slice slice words_also left_also (work_after turned (hosts_of []) slice slice) calling_also left left_also refl refl
 
 -- 2 is the nearest family of 0 and 1, and 3, its image, that of 1 and 2, their images
-carried : nearest_in left_also 1 2 ≡ Found (type_number 3)
+carried : nearest_in left_also 1 2 ≡ Ok (Some (type_number 3))
 unfolding NearestMoves family_image image
 carried =
     moved 0 1 (nearest_in left 0 1) (nearest_in left_also 1 2) (record { answers = refl }) (record { answers = refl })

@@ -1,13 +1,10 @@
 -- `sizes_right` is about something: a sheet, a call that accepts it, and what is then answered.
-use Rattle.std.specs.Prelude.{◌≡◌, refl, List, [], ◌∷◌, ℕ, get_or, replicate}
-use Rattle.error.specs.declared.Loaded.TheVariants.{Accepted}
+use Rattle.std.specs.Prelude.{◌≡◌, refl, List, [], ◌∷◌, ℕ, get_or, replicate, Ok, Some}
 use Rattle.error.specs.Answer.{numbers}
 use Rattle.sheet.specs.Module.{Module}
 use Rattle.sheet.specs.Encode.{sheet_of}
 use Rattle.host.specs.Host.{hosts_of}
-use Rattle.descends.specs.declared.FamilySize.TheVariants.{Size}
 use Rattle.descends.specs.Sizes.{size_in}
-use Rattle.families.specs.declared.StructCount.TheVariants.{Structs}
 use Rattle.families.specs.Families.{is_from, family, family_size, struct_count}
 use Rattle.families.specs.Counted.{counted_of, structs_in}
 use Rattle.families.proofs.Cases.{sample}
@@ -45,7 +42,7 @@ words = get_or (numbers (load sheet (hosts_of []) 500 500)) 2 0
 abbrev pub left : List ℕ
 left = table_after sheet (hosts_of []) slice slice
 
-pub calling : Loads sheet (hosts_of []) slice slice (Accepted words) left (work_after sheet (hosts_of []) slice slice)
+pub calling : Loads sheet (hosts_of []) slice slice (Ok words) left (work_after sheet (hosts_of []) slice slice)
 unfolding everything
 calling = record { answers = refl; leaves = refl; clears = refl }
 
@@ -55,7 +52,7 @@ unfolding SizesRight Begins everything
 asked = sizes_right sheet (hosts_of []) slice slice words left (work_after sheet (hosts_of []) slice slice) small refl calling left refl
 
 -- the root 2 holds three types, the root 4 itself, and type 3 is no struct
-told : (size_in left 2 ≡ Size 3) × (size_in left 4 ≡ Size 1) × (size_in left 3 ≡ Size 0)
+told : (size_in left 2 ≡ Ok 3) × (size_in left 4 ≡ Ok 1) × (size_in left 3 ≡ Ok 0)
 unfolding everything family_size family is_from
 told = (
   asked.declared 2 (size_in left 2) (record { answers = refl }),
@@ -64,6 +61,6 @@ told = (
 )
 
 -- four struct types in two root families
-counted : (structs_in sheet ≡ Structs 4) × (root_sizes small ≡ 4)
+counted : (structs_in sheet ≡ Some 4) × (root_sizes small ≡ 4)
 unfolding everything structs_in counted_of struct_count family_size family is_from
 counted = (refl, refl)

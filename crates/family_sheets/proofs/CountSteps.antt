@@ -3,7 +3,8 @@ use Prim.Native.Nat.{ℕ, suc, ◌+◌, ◌-◌, ◌≤◌, ◌<◌}
 use mathlib.Core.Path.{◌≡◌, refl, sym, ap, ◌∙◌}
 use mathlib.Core.List.{List, ◌∷◌}
 use mathlib.Core.Bool.{Bool, true, false, cond}
-use mathlib.Core.Option.{Option, none, some}
+use Rattle.std.specs.Prelude.{Option, None, Some}
+use Rattle.std.specs.Prelude.{Option, None, Some}
 use native.Mathlib.Omega.{arith}
 use lib.ListN.{length, get_or}
 use borrow.Author.Tests.{eq-eqb, ne_eqb}
@@ -12,14 +13,10 @@ use Rattle.law_counting.specs.Counting.{tick}
 use Rattle.blocks.specs.Blocks.{words}
 use Rattle.blocks.specs.Frame.{first_words}
 use Rattle.blocks.proofs.FirstWords.{length_first_words, first_words_at}
-use Rattle.reader.specs.declared.Step.{Step}
-use Rattle.reader.specs.declared.Step.TheVariants as step
 use Rattle.reader.specs.Reader.{Got, broken, got, and_then, word, many, list_of}
 use Rattle.reader.specs.Step.{step_of}
 use Rattle.reader.specs.StepLaws.{arrived, stuck}
 use Rattle.reader.specs.ReaderLaws.{stands_in, stands_at}
-use Rattle.sheet_reader.specs.declared.Taken.{Taken}
-use Rattle.sheet_reader.specs.declared.Taken.TheVariants.{Word, Broken}
 use Rattle.sheet_reader.specs.Taken.{taken_of}
 use Rattle.sheet_reader.specs.TakenLaws.{word_taken, none_taken}
 use Rattle.sheet.specs.Module.{TypeDef, kind_word, is_struct}
@@ -27,13 +24,10 @@ use Rattle.sheet.specs.Decode.{type_def}
 use Rattle.sheet.specs.Encode.{encode_type}
 use Rattle.sheet.proofs.TypeCodes.{type_codes}
 use Rattle.open_layout.specs.declared.Layout.{Layout}
-use Rattle.open_layout.specs.declared.Checked.{Checked}
-use Rattle.open_layout.specs.Layout.{layout, checked_of}
+use Rattle.open_layout.specs.Layout.{layout}
 use Rattle.open_layout.specs.LayoutLaws.{layout_broken}
-use Rattle.open_layout.specs.Opened.{module_in}
 use Rattle.open_index.specs.SheetIndex.{intact}
 use Rattle.families.specs.Families.{struct_count}
-use Rattle.families.specs.declared.StructCount.TheVariants as StructCount
 use Rattle.families.specs.Counted.{counted_of, structs_in}
 use Rattle.family_sheets.specs.Declared.{plus_structs, structs_at, Counts}
 
@@ -59,7 +53,7 @@ kind_read b n p d q k e f =
 
 -- ── the list ──
 
-plus_none : (n : ℕ) (g : Got (List TypeDef)) → g ≡ broken → 0 ≡ plus_structs n g
+plus_none : (n : ℕ) (g : Got (List TypeDef)) → g ≡ broken → None ≡ plus_structs n g
 unfolding plus_structs
 plus_none n g e = sym (ap (plus_structs n) e)
 
@@ -67,90 +61,81 @@ plus_more : (n : ℕ) (d : TypeDef) (g : Got (List TypeDef)) →
     plus_structs n (and_then g (λ ts q. got (d ∷ ts) q)) ≡ plus_structs (n + tick (is_struct d)) g
 unfolding plus_structs
 plus_more n d broken = refl
-plus_more n d (got ts q) = omega (arith, one_more d ts)
+plus_more n d (got ts q) = ap Some (omega (arith, one_more d ts))
 
-module _ (ws : List ℕ) (at : ℕ) {r : Taken} where
-  pub counts_start : (w q : ℕ) → w < 4294967296 → r ≡ Word w q → r ≡ taken_of (word ws at) → Counts ws at w q 0
+module _ (ws : List ℕ) (at : ℕ) {r : Option (ℕ × ℕ)} where
+  pub counts_start : (w q : ℕ) → w < 4294967296 → r ≡ Some (w, q) → r ≡ taken_of (word ws at) → Counts ws at (w - 0) q 0
   unfolding structs_at list_of
-  counts_start w q h e k = record { same = rw (word_taken (word ws at) e k) refl; few = omega arith }
+  counts_start w q h e k = let z : w - 0 ≡ w = omega arith in record { same = rw (word_taken (word ws at) e k, z) refl; few = omega arith }
 
-  pub counts_none : r ≡ Broken → r ≡ taken_of (word ws at) → 0 ≡ structs_at ws at
+  pub counts_none : r ≡ None → r ≡ taken_of (word ws at) → None ≡ structs_at ws at
   unfolding structs_at list_of
   counts_none e k = rw (none_taken (word ws at) e k) (plus_none 0 broken refl)
 
-module _ (b : List ℕ) (m at left p n : ℕ) (c : Counts (first_words b m) at left p n) (h : 0 < left) where
+module _ (b : List ℕ) (m at end i p n : ℕ) (c : Counts (first_words b m) at (end - i) p n) (h : i < end) where
   abbrev ws : List ℕ
   ws = first_words b m
 
-  z : left ≡ suc (left - 1)
+  z : end - i ≡ suc (end - (i + 1))
   z = omega arith
 
-  pub counts_stop : {r : Step} → r ≡ step.Broken → r ≡ step_of (type_def ws p) → 0 ≡ structs_at ws at
+  pub counts_stop : {r : Option ℕ} → r ≡ None → r ≡ step_of (type_def ws p) → None ≡ structs_at ws at
   unfolding many
   counts_stop e k =
       sym
       (c.same
-      ∙ ap (λ i. plus_structs n (many i type_def ws p)) z
+      ∙ ap (λ k. plus_structs n (many k type_def ws p)) z
       ∙ rw (stuck (type_def ws p) e k) (sym (plus_none n broken refl)))
 
   counts_next : (d : TypeDef) (q : ℕ) → type_def ws p ≡ got d q →
-      structs_at ws at ≡ plus_structs (n + tick (is_struct d)) (many (left - 1) type_def ws q)
+      structs_at ws at ≡ plus_structs (n + tick (is_struct d)) (many (end - (i + 1)) type_def ws q)
   unfolding many
-  counts_next d q g = c.same ∙ ap (λ i. plus_structs n (many i type_def ws p)) z ∙ rw g (plus_more n d (many (left - 1) type_def ws q))
+  counts_next d q g = c.same ∙ ap (λ k. plus_structs n (many k type_def ws p)) z ∙ rw g (plus_more n d (many (end - (i + 1)) type_def ws q))
 
-  pub counts_yes : (q : ℕ) {r : Step} → r ≡ step.Next q → r ≡ step_of (type_def ws p) → {k : ℕ} → k ≡ get_or (words b) p 0 → k ≡ 1 →
-      Counts ws at (left - 1) q (n + 1)
+  pub counts_yes : (q : ℕ) {r : Option ℕ} → r ≡ Some q → r ≡ step_of (type_def ws p) → {k : ℕ} → k ≡ get_or (words b) p 0 → k ≡ 1 →
+      Counts ws at (end - (i + 1)) q (n + 1)
   unfolding is_struct
-  counts_yes q e f {k} g i =
+  counts_yes q e f {k} g y =
       arrived (type_def ws p) e f λ d j.
-      let t : is_struct d ≡ true = eq-eqb (kind_word d) 1 (kind_read b m p d q k j g ∙ i) in
+      let t : is_struct d ≡ true = eq-eqb (kind_word d) 1 (kind_read b m p d q k j g ∙ y) in
       record {
-        same = counts_next d q j ∙ ap (λ x. plus_structs (n + tick x) (many (left - 1) type_def ws q)) t;
+        same = counts_next d q j ∙ ap (λ x. plus_structs (n + tick x) (many (end - (i + 1)) type_def ws q)) t;
         few = omega (arith, c.few);
       }
 
-  pub counts_no : (q : ℕ) {r : Step} → r ≡ step.Next q → r ≡ step_of (type_def ws p) → {k : ℕ} → k ≡ get_or (words b) p 0 → (k ≡ 1 → ⊥) →
-      Counts ws at (left - 1) q n
+  pub counts_no : (q : ℕ) {r : Option ℕ} → r ≡ Some q → r ≡ step_of (type_def ws p) → {k : ℕ} → k ≡ get_or (words b) p 0 → (k ≡ 1 → ⊥) →
+      Counts ws at (end - (i + 1)) q n
   unfolding is_struct
-  counts_no q e f {k} g i =
+  counts_no q e f {k} g x =
       arrived (type_def ws p) e f λ d j.
-      let t : is_struct d ≡ false = ne_eqb (kind_word d) 1 (λ y. i (sym (kind_read b m p d q k j g) ∙ y)) in
+      let t : is_struct d ≡ false = ne_eqb (kind_word d) 1 (λ y. x (sym (kind_read b m p d q k j g) ∙ y)) in
       let y : n + 0 ≡ n = omega arith in
       record {
         same =
             counts_next d q j
-            ∙ ap (λ x. plus_structs (n + tick x) (many (left - 1) type_def ws q)) t
-            ∙ ap (λ x. plus_structs x (many (left - 1) type_def ws q)) y;
+            ∙ ap (λ x. plus_structs (n + tick x) (many (end - (i + 1)) type_def ws q)) t
+            ∙ ap (λ x. plus_structs x (many (end - (i + 1)) type_def ws q)) y;
         few = omega (arith, c.few);
       }
 
-pub counts_end : (ws : List ℕ) (at left p n : ℕ) → Counts ws at left p n → left ≤ 0 → n ≡ structs_at ws at
+pub counts_end : (ws : List ℕ) (at end i p n : ℕ) → Counts ws at (end - i) p n → end ≤ i → Some n ≡ structs_at ws at
 unfolding many plus_structs struct_count
-counts_end ws at left p n c h =
-    let y : left ≡ 0 = omega arith in
+counts_end ws at end i p n c h =
+    let y : end - i ≡ 0 = omega arith in
     let x : n ≡ n + 0 = omega arith in
-    x ∙ sym (c.same ∙ ap (λ i. plus_structs n (many i type_def ws p)) y)
+    ap Some x ∙ sym (c.same ∙ ap (λ k. plus_structs n (many k type_def ws p)) y)
 
 pub ruleset counting = (counts_start, counts_none, counts_stop, counts_yes, counts_no, counts_end)
 
 -- ── the sheet ──
 
-pub count_intact : (sheet : List ℕ) (l : Layout) {r : Checked} {n : ℕ} → r ≡ Checked.Intact l → r ≡ checked_of (layout sheet) →
-    n ≡ structs_at (first_words sheet l.words) l.types → StructCount.Structs n ≡ structs_in sheet
+pub count_intact : (sheet : List ℕ) (l : Layout) {r : Option Layout} {n : Option ℕ} → r ≡ Some l → r ≡ layout sheet →
+    n ≡ structs_at (first_words sheet l.words) l.types → n ≡ structs_in sheet
 unfolding structs_in counted_of structs_at plus_structs
 count_intact sheet l {r} {n} e k q =
-    let i = intact sheet l (laid (layout sheet) (sym e ∙ k)) in
-    let z : n ≡ struct_count (module_in (first_words sheet l.words)).types = q ∙ ap (plus_structs 0) i.located.types ∙ omega arith in
-    ap StructCount.Structs z ∙ sym (ap counted_of i.holds)
-  where
-    laid : (o : Option Layout) → Checked.Intact l ≡ checked_of o → o ≡ some l
-    laid none h = unfold checked_of in let z : ◌≡◌ {A = ℕ} 0 1 = cc in absurd (omega arith)
-    laid (some k) h = unfold checked_of in ap some (cc)
+    let i = intact sheet l (sym k ∙ e) in
+    q ∙ ap (plus_structs 0) i.located.types ∙ ap Some (omega arith) ∙ sym (ap counted_of i.holds)
 
-pub count_broken : (sheet : List ℕ) {r : Checked} → r ≡ Checked.Broken → r ≡ checked_of (layout sheet) → StructCount.Broken ≡ structs_in sheet
+pub count_broken : (sheet : List ℕ) {r : Option Layout} → r ≡ None → r ≡ layout sheet → None ≡ structs_in sheet
 unfolding structs_in counted_of
-count_broken sheet e k = sym (ap counted_of ((layout_broken sheet).0 (unlaid (layout sheet) (sym e ∙ k))))
-  where
-    unlaid : (o : Option Layout) → Checked.Broken ≡ checked_of o → o ≡ none
-    unlaid none h = refl
-    unlaid (some k) h = unfold checked_of in let z : ◌≡◌ {A = ℕ} 0 1 = cc in absurd (omega arith)
+count_broken sheet e k = sym (ap counted_of ((layout_broken sheet).0 (sym k ∙ e)))

@@ -1,17 +1,17 @@
 -- The struct types among those that a list of types declares.
-use Rattle.std.specs.Prelude.{ℕ, ◌+◌, ◌<◌, ◌≡◌, List}
+use Rattle.std.specs.Prelude.{ℕ, ◌+◌, ◌<◌, ◌≡◌, List, Option, None, Some}
 use Rattle.reader.specs.Reader.{Got, broken, got, many, list_of}
 use Rattle.sheet.specs.Module.{TypeDef}
 use Rattle.sheet.specs.Decode.{type_def}
 use Rattle.families.specs.Families.{struct_count}
 
--- n and those that were read; 0 where nothing was
-unfoldable pub plus_structs : ℕ → Got (List TypeDef) → ℕ
-plus_structs n broken = 0
-plus_structs n (got ts q) = n + struct_count ts
+-- n and those that were read
+unfoldable pub plus_structs : ℕ → Got (List TypeDef) → Option ℕ
+plus_structs n broken = None
+plus_structs n (got ts q) = Some (n + struct_count ts)
 
 -- those of the list that stands at a position
-unfoldable pub structs_at : List ℕ → ℕ → ℕ
+unfoldable pub structs_at : List ℕ → ℕ → Option ℕ
 structs_at ws at = plus_structs 0 (list_of type_def ws at)
 
 -- n are counted, and so many types stand from p on

@@ -7,7 +7,7 @@ use lib.ListN.{get_or}
 use Rattle.blocks.specs.Blocks.{words}
 use Rattle.blocks.specs.Frame.{first_words}
 use Rattle.blocks.proofs.FirstWords.{length_first_words, first_words_at}
-use Rattle.reader.specs.declared.Step.TheVariants.{Next}
+use Rattle.std.specs.Prelude.{Some}
 use Rattle.reader.specs.Reader.{got}
 use Rattle.reader.specs.Text.{string}
 use Rattle.reader.specs.Step.{step_of}
@@ -26,9 +26,9 @@ module _ (b : List ℕ) (n at : ℕ) where
   pub text_within : Whole (string (first_words b n) at) → at + 1 + (get_or (words b) at 0 + 3) / 4 ≤ n
   text_within h = read_text h λ s e w g t i. omega (arith, t.end, t.within, length_first_words b n)
 
-  pub text_end : {w : ℕ} → Whole (string (first_words b n) at) → w ≡ get_or (words b) at 0 → Next (at + 1 + (w + 3) / 4) ≡ step_of (string (first_words b n) at)
+  pub text_end : {w : ℕ} → Whole (string (first_words b n) at) → w ≡ get_or (words b) at 0 → Some (at + 1 + (w + 3) / 4) ≡ step_of (string (first_words b n) at)
   unfolding step_of
   text_end {w} h e =
       read_text h λ s q v g t i.
       let z : at + 1 + (w + 3) / 4 ≡ q = omega (arith, t.end) in
-      ap Next z ∙ sym (ap step_of g)
+      ap Some z ∙ sym (ap step_of g)

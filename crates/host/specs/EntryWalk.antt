@@ -5,7 +5,7 @@ use Rattle.std.proofs.Common.{ap₂, ◌∙◌, arith}
 use Rattle.blocks.specs.Blocks.{words}
 use Rattle.blocks.specs.Frame.{first_words}
 use Rattle.blocks.proofs.FirstWords.{length_first_words, first_words_at}
-use Rattle.reader.specs.declared.Step.TheVariants.{Next}
+use Rattle.std.specs.Prelude.{Some}
 use Rattle.reader.specs.Reader.{Got, got, pure, word, code_below}
 use Rattle.reader.specs.Text.{string}
 use Rattle.reader.specs.ReaderLaws.{then_inv, chosen}
@@ -47,18 +47,18 @@ entered ws at w f =
     })
 
 -- where a value ends
-pub ends_at : {A : Type 0} {g : Got A} {a : A} {p q : ℕ} → g ≡ got a p → Next q ≡ step_of g → q ≡ p
+pub ends_at : {A : Type 0} {g : Got A} {a : A} {p q : ℕ} → g ≡ got a p → Some q ≡ step_of g → q ≡ p
 ends_at {g = g} e h = arrived g refl h λ b f. let x : got b _ ≡ got _ _ = sym f ∙ e in cc
 
 module _ (ws : List ℕ) (at : ℕ) (w : Whole (host_fn ws at)) where
   pub entry_module : Whole (string ws at)
   entry_module = entered ws at w λ h p q e t. got_whole t.owner
 
-  module _ {p : ℕ} (m : Next p ≡ step_of (string ws at)) where
+  module _ {p : ℕ} (m : Some p ≡ step_of (string ws at)) where
     pub entry_name : Whole (string ws p)
     entry_name = entered ws at w λ h p₁ q e t. got_whole (ap (string ws) (ends_at t.owner m) ∙ t.title)
 
-    pub entry_kind : {q : ℕ} → Next q ≡ step_of (string ws p) → Next (q + 1) ≡ step_of (host_fn ws at)
+    pub entry_kind : {q : ℕ} → Some q ≡ step_of (string ws p) → Some (q + 1) ≡ step_of (host_fn ws at)
     unfolding step_of
     entry_kind {q} n =
         entered ws at w λ h p₁ q₁ e t.
@@ -66,7 +66,7 @@ module _ (ws : List ℕ) (at : ℕ) (w : Whole (host_fn ws at)) where
         let y : q ≡ q₁ = ends_at t.title (n ∙ ap (λ i. step_of (string ws i)) x) in
         let i = word_inv ws q₁ t.kind_at in
         let z : q + 1 ≡ e = omega (arith, i.2) in
-        ap Next z ∙ sym (ap step_of t.all)
+        ap Some z ∙ sym (ap step_of t.all)
 
     pub entry_texts : {C : Type 0} → (text_at ws at ≡ (entry_at ws at).module_name → text_at ws p ≡ (entry_at ws at).name → C) → C
     entry_texts f =
@@ -80,7 +80,7 @@ pub ruleset walking = (entry_module, entry_name, entry_kind)
 
 -- ── the kind ──
 
-module _ (b : List ℕ) (n at q : ℕ) (m : Next (q + 1) ≡ step_of (host_fn (first_words b n) at)) where
+module _ (b : List ℕ) (n at q : ℕ) (m : Some (q + 1) ≡ step_of (host_fn (first_words b n) at)) where
   kind_read : {C : Type 0} → ((h : HostFn) → host_fn (first_words b n) at ≡ got h (q + 1) → q < n → get_or (words b) q 0 ≡ h.kind → C) → C
   kind_read f =
       arrived (host_fn (first_words b n) at) refl m λ a g. entered (first_words b n) at (got_whole g) λ h p q₁ e t.

@@ -1,6 +1,6 @@
 -- Pairs and lookups by computing.
 use Rattle.std.specs.Prelude.{ℕ, ◌≡◌, refl, List, [], ◌∷◌, true, false}
-use Rattle.host.specs.declared.Found.TheVariants.{At, Missing}
+use Rattle.std.specs.Prelude.{None, Some}
 use Rattle.host.specs.Host.{HostFn, named, pairs_distinct, lookup, resolved, is_scheduler}
 use Rattle.host.specs.Listed.{found_at, found}
 
@@ -18,10 +18,10 @@ unfolding pairs_distinct named
 two_kinds = refl
 
 -- places count from 0
-second : found (entry (97 ∷ []) (98 ∷ []) 0 ∷ entry (97 ∷ []) (99 ∷ []) 1 ∷ []) (97 ∷ []) (99 ∷ []) ≡ At 1 true
+second : found (entry (97 ∷ []) (98 ∷ []) 0 ∷ entry (97 ∷ []) (99 ∷ []) 1 ∷ []) (97 ∷ []) (99 ∷ []) ≡ Some (1, true)
 unfolding found found_at lookup resolved is_scheduler named
 second = refl
 
-nowhere : found (entry (97 ∷ []) (98 ∷ []) 0 ∷ []) (98 ∷ []) (97 ∷ []) ≡ Missing
+nowhere : found (entry (97 ∷ []) (98 ∷ []) 0 ∷ []) (98 ∷ []) (97 ∷ []) ≡ None
 unfolding found found_at lookup resolved is_scheduler named
 nowhere = refl

@@ -2,7 +2,7 @@
 use Rattle.std.specs.Prelude.{ℕ, ◌↔◌, List, [], length}
 use Rattle.std.proofs.Math.Path.{◌≡◌, refl}
 use Rattle.std.proofs.Common.{sym, ap, ap₂, ◌∙◌, arith}
-use Rattle.std.proofs.Math.Option.{Option, none, some}
+use Rattle.std.specs.Prelude.{Option, None, Some}
 use Rattle.blocks.specs.Blocks.{words, length_word, framed}
 use Rattle.blocks.specs.Frame.{first_words}
 use Rattle.blocks.proofs.FirstWords.{framed_length, first_words_framed}
@@ -10,42 +10,45 @@ use Rattle.reader.specs.Reader.{got, list_of, content}
 use Rattle.reader.proofs.ReadLaws.{content_inv}
 use Rattle.reader.specs.Value.{Whole}
 use Rattle.reader.specs.ValueLaws.{got_whole, value_got}
-use Rattle.host.specs.declared.Listed.{Listed}
-use Rattle.host.specs.declared.Listed.TheVariants.{Broken, Intact}
 use Rattle.host.specs.Host.{HostFn, host_fn, if_distinct, host_edition, decode_hosts}
 use Rattle.host.specs.HostLaws.{distinct_inv}
 use Rattle.host.specs.Listed.{listed_for, listed_of, hosts_in}
 use Rattle.host.specs.Seek.{listed_in}
 
 -- THE HOST LIST IS BROKEN EXACTLY WHERE NOTHING IS DECODED
-pub listed_broken : (bytes : List ℕ) → (listed_of bytes ≡ Broken) ↔ (decode_hosts bytes ≡ none)
+pub listed_broken : (bytes : List ℕ) → (listed_of bytes ≡ None) ↔ (decode_hosts bytes ≡ None)
 unfolding listed_of listed_for
 listed_broken bytes = go (length_word (words bytes)) (decode_hosts bytes)
   where
-    go : (n : ℕ) (o : Option (List HostFn)) → (listed_for n o ≡ Broken) ↔ (o ≡ none)
-    go n none = unfold listed_for in (λ e. refl, λ e. refl)
-    go n (some hs) = unfold listed_for in (λ e. let z : ◌≡◌ {A = ℕ} 0 1 = cc in absurd (omega arith), λ e. let z : ◌≡◌ {A = ℕ} 0 1 = cc in absurd (omega arith))
+    go : (n : ℕ) (o : Option (List HostFn)) → (listed_for n o ≡ None) ↔ (o ≡ None)
+    go n None = unfold listed_for in (λ e. refl, λ e. refl)
+    go n (Some hs) = unfold listed_for in (
+      λ e. let z : ◌≡◌ {A = ℕ} 0 1 = cc in absurd
+          (omega arith),
+      λ e. let z : ◌≡◌ {A = ℕ} 0 1 = cc in absurd (omega arith),
+    )
 
 -- of a frame it is what its words hold
-pub listed_framed : (bytes ws : List ℕ) → framed host_edition bytes ≡ some ws → listed_of bytes ≡ listed_in (length ws) ws
+pub listed_framed : (bytes ws : List ℕ) → framed host_edition bytes ≡ Some ws → listed_of bytes ≡ listed_in (length ws) ws
 unfolding listed_of listed_in decode_hosts content
 listed_framed bytes ws e =
     ap₂ (λ n o. listed_for n (if_distinct (content (list_of host_fn) o))) (sym (framed_length host_edition bytes ws e).0) e
 
 -- ── what a caller has, once the list is intact ──
 
-intact_inv : {C : Type 0} (n m : ℕ) (o : Option (List HostFn)) → listed_for m o ≡ Intact n → ((hs : List HostFn) → o ≡ some hs → m ≡ n → C) → C
+intact_inv : {C : Type 0} (n m : ℕ) (o : Option (List HostFn)) → listed_for m o ≡ Some n →
+    ((hs : List HostFn) → o ≡ Some hs → m ≡ n → C) → C
 unfolding listed_for
-intact_inv n m none e f = let z : ◌≡◌ {A = ℕ} 0 1 = cc in absurd (omega arith)
-intact_inv n m (some hs) e f = f hs refl (cc)
+intact_inv n m None e f = let z : ◌≡◌ {A = ℕ} 0 1 = cc in absurd (omega arith)
+intact_inv n m (Some hs) e f = f hs refl (cc)
 
 -- the list of n words is whole, and is what was decoded
 pub record IntactHosts (bytes : List ℕ) (n : ℕ) (hs : List HostFn) : Type 0 where
-  pub decoded : decode_hosts bytes ≡ some hs
+  pub decoded : decode_hosts bytes ≡ Some hs
   pub length_is : length_word (words bytes) ≡ n
   pub read : list_of host_fn (first_words bytes n) 2 ≡ got hs n
 
-pub intact : {C : Type 0} (bytes : List ℕ) (n : ℕ) → listed_of bytes ≡ Intact n → ((hs : List HostFn) → IntactHosts bytes n hs → C) → C
+pub intact : {C : Type 0} (bytes : List ℕ) (n : ℕ) → listed_of bytes ≡ Some n → ((hs : List HostFn) → IntactHosts bytes n hs → C) → C
 unfolding listed_of decode_hosts
 intact bytes n e f =
     intact_inv n (length_word (words bytes)) (decode_hosts bytes) e λ hs g l.
@@ -60,9 +63,9 @@ intact bytes n e f =
           ∙ ap (λ w. list_of host_fn w 2) (first_words_framed host_edition bytes ws k) ∙ r ∙ ap (got hs) z;
     })
 
-module _ (bytes : List ℕ) (n : ℕ) {r : Listed} (e : r ≡ Intact n) (f : r ≡ listed_of bytes) where
+module _ (bytes : List ℕ) (n : ℕ) {r : Option ℕ} (e : r ≡ Some n) (f : r ≡ listed_of bytes) where
   pub hosts_ready : Whole (list_of host_fn (first_words bytes n) 2)
   hosts_ready = intact bytes n (sym f ∙ e) λ hs i. got_whole i.read
 
-  pub hosts_are : decode_hosts bytes ≡ some (hosts_in (first_words bytes n))
-  hosts_are = intact bytes n (sym f ∙ e) λ hs i. i.decoded ∙ ap some (sym (value_got [] i.read))
+  pub hosts_are : decode_hosts bytes ≡ Some (hosts_in (first_words bytes n))
+  hosts_are = intact bytes n (sym f ∙ e) λ hs i. i.decoded ∙ ap Some (sym (value_got [] i.read))

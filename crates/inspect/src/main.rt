@@ -3,38 +3,26 @@
 #![tactic(auto)]
 
 use blocks::word;
-use console::{argument, read_file};
-use open_layout::{Checked, Layout};
-use std::env::Env;
+use console::{each_argument, read_file};
+use open_layout::Layout;
 use std::fs::Files;
 use std::io;
 
-fn print_count(rt: &impl Print, n: usize) -> io::Result<()> {
-    print!(rt; " {n}")
-}
-
-fn print_word(rt: &impl Print, sheet: &[u8], at: usize) -> io::Result<()> {
-    print_count(rt, word(sheet, at) as usize)
-}
-
 fn print_counts(rt: &impl Print, sheet: &[u8], l: Layout) -> io::Result<()> {
-    print!(rt; " intact")?;
-    print_count(rt, l.words)?;
-    print_word(rt, sheet, l.strings)?;
-    print_word(rt, sheet, l.types)?;
-    print_word(rt, sheet, l.consts)?;
-    print_word(rt, sheet, l.imports)?;
-    print_word(rt, sheet, l.globals)?;
-    print_word(rt, sheet, l.funcs)?;
-    print_word(rt, sheet, l.hooks)?;
-    print_word(rt, sheet, l.start)?;
-    print_word(rt, sheet, l.exports)
+    print!(rt; " intact {}", l.words)?;
+    let parts = [
+        l.strings, l.types, l.consts, l.imports, l.globals, l.funcs, l.hooks, l.start, l.exports,
+    ];
+    for at in parts {
+        print!(rt; " {}", word(sheet, at))?;
+    }
+    Ok(())
 }
 
 fn report(rt: &impl Print, sheet: &[u8]) -> io::Result<()> {
     match open_layout::check_sheet(sheet) {
-        Checked::Intact(l) => print_counts(rt, sheet, l)?,
-        Checked::Broken => print!(rt; " broken")?,
+        Some(l) => print_counts(rt, sheet, l)?,
+        None => print!(rt; " broken")?,
     }
     println!(rt; "")
 }
@@ -46,26 +34,11 @@ fn report_file(rt: &(impl Files + Print), name: &[u8]) -> io::Result<()> {
     report(rt, &bytes[..n])
 }
 
-// False past the last argument.
-fn report_argument(rt: &(impl Env + Files + Print), i: usize) -> io::Result<bool> {
-    let mut name = [0u8; 4096];
-    let Some(n) = argument(rt, i, &mut name) else {
-        return Ok(false);
-    };
-    rt.write_all(&name[..n])?;
-    report_file(rt, &name[..n])?;
-    Ok(true)
-}
-
-fn report_arguments(rt: &(impl Env + Files + Print)) -> io::Result<()> {
-    for i in 1..usize::MAX {
-        if !report_argument(rt, i)? {
-            break;
-        }
-    }
-    Ok(())
+fn report_argument(rt: &(impl Files + Print), name: &[u8]) -> io::Result<()> {
+    rt.write_all(name)?;
+    report_file(rt, name)
 }
 
 fn main(rt: HostRuntime) -> io::Result<()> {
-    report_arguments(&rt)
+    each_argument(&rt, |name| report_argument(&rt, name))
 }

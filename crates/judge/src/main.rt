@@ -2,34 +2,19 @@
 // is left out. The host list is the file `hosts`.
 #![tactic(auto)]
 
-use console::{argument, print_numbers, read_file};
-use error::numbers::{SixNumbers, numbers};
+use console::{each_argument, print_numbers, read_file};
+use error::numbers::numbers;
 use loader::load;
-use std::env::Env;
 use std::fs::Files;
 use std::io;
 
 // An accepted sheet gives six zeros, so that what is stored was written from the rules alone.
-fn verdict(n: SixNumbers) -> SixNumbers {
-    if n.kind == 0 {
-        return SixNumbers {
-            kind: 0,
-            word: 0,
-            number: 0,
-            second: 0,
-            func: 0,
-            pc: 0,
-        };
-    }
-    n
-}
-
 // 16 blocks hold 2,032 words, for which 16,320 words of table and of work are enough.
 fn report(rt: &impl Print, sheet: &[u8], hosts: &[u8]) -> io::Result<()> {
     let mut table = [0u32; 16320];
     let mut work = [0u32; 16320];
-    let answer = numbers(load(sheet, hosts, &mut table, &mut work));
-    print_numbers(rt, verdict(answer))
+    let verdict = load(sheet, hosts, &mut table, &mut work).map(|_| 0);
+    print_numbers(rt, numbers(verdict))
 }
 
 fn report_file(rt: &(impl Files + Print), name: &[u8]) -> io::Result<()> {
@@ -40,27 +25,12 @@ fn report_file(rt: &(impl Files + Print), name: &[u8]) -> io::Result<()> {
     report(rt, &bytes[..n], &list[..m])
 }
 
-// False past the last argument.
-fn report_argument(rt: &(impl Env + Files + Print), i: usize) -> io::Result<bool> {
-    let mut name = [0u8; 4096];
-    let Some(n) = argument(rt, i, &mut name) else {
-        return Ok(false);
-    };
-    rt.write_all(&name[..n])?;
+fn report_argument(rt: &(impl Files + Print), name: &[u8]) -> io::Result<()> {
+    rt.write_all(name)?;
     print!(rt; " ")?;
-    report_file(rt, &name[..n])?;
-    Ok(true)
-}
-
-fn report_arguments(rt: &(impl Env + Files + Print)) -> io::Result<()> {
-    for i in 1..usize::MAX {
-        if !report_argument(rt, i)? {
-            break;
-        }
-    }
-    Ok(())
+    report_file(rt, name)
 }
 
 fn main(rt: HostRuntime) -> io::Result<()> {
-    report_arguments(&rt)
+    each_argument(&rt, |name| report_argument(&rt, name))
 }

@@ -1,8 +1,7 @@
 -- What `best` finds in a list of numbers.
-use Rattle.std.specs.Prelude.{ℕ, ◌+◌, ◌≤◌, ◌≡◌, List, [], ◌∷◌, Bool, true, false, cond, eqb, ltb}
+use Rattle.std.specs.Prelude.{ℕ, ◌+◌, ◌≤◌, ◌≡◌, List, [], ◌∷◌, Bool, true, false, cond, eqb, ltb, Option, None, Some}
 use Rattle.std.proofs.Math.Path.{refl}
 use Rattle.std.proofs.Common.{ap, ◌∙◌, arith, ltb-true, ltb-false, le-ltb}
-use Rattle.std.proofs.Math.Option.{Option, none, some}
 use Rattle.std.proofs.Math.Decide.{ℕ_discrete}
 use Rattle.lists.specs.Best.{winner, best}
 use Rattle.law_counting.specs.Counting.{tick, count, tick_is, tick_not}
@@ -31,8 +30,8 @@ by_most f = record {
 
 -- none where there is no member; else a member that no member beats
 unfoldable pub IsBest : (ℕ → ℕ → Bool) → List ℕ → Option ℕ → Type 0
-IsBest beats l none = (x : ℕ) → count x l ≡ 0
-IsBest beats l (some f) = (1 ≤ count f l) × ((x : ℕ) → 1 ≤ count x l → beats x f ≡ false)
+IsBest beats l None = (x : ℕ) → count x l ≡ 0
+IsBest beats l (Some f) = (1 ≤ count f l) × ((x : ℕ) → 1 ≤ count x l → beats x f ≡ false)
 
 -- a member is the first or among the rest
 in_either : (z x : ℕ) (l : List ℕ) {C : Type 0} → 1 ≤ tick (eqb z x) + count z l → (z ≡ x → C) → (1 ≤ count z l → C) → C
@@ -43,13 +42,13 @@ in_either z x l {C} k f g = go (ℕ_discrete z x)
     go (no q) = g (omega (arith, tick_not z x q))
 
 best_step : (beats : ℕ → ℕ → Bool) → Ranks beats → (x : ℕ) (l : List ℕ) (o : Option ℕ) → IsBest beats l o →
-    IsBest beats (x ∷ l) (some (winner beats x o))
+    IsBest beats (x ∷ l) (Some (winner beats x o))
 unfolding IsBest winner
-best_step beats r x l none h = (
+best_step beats r x l None h = (
   omega (arith, tick_is x x refl),
   λ z k. in_either z x l k (λ q. ap (λ y. beats y x) q ∙ r.itself x) (λ j. absurd (omega (arith, h z))),
 )
-best_step beats r x l (some y) h = go (beats y x) refl
+best_step beats r x l (Some y) h = go (beats y x) refl
   where
     go : (b : Bool) → beats y x ≡ b → (1 ≤ count (cond b y x) (x ∷ l)) × ((z : ℕ) → 1 ≤ count z (x ∷ l) → beats z (cond b y x) ≡ false)
     go true e = (

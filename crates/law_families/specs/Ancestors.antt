@@ -1,8 +1,7 @@
 -- Nearest common ancestors in any forest. `d t a` says that t descends from a.
-use Rattle.std.specs.Prelude.{ℕ, ◌≤◌, ◌<◌, ◌⊎◌, ◌↔◌, Bool, true, false, cond, ◌&&◌}
+use Rattle.std.specs.Prelude.{ℕ, ◌≤◌, ◌<◌, ◌⊎◌, ◌↔◌, Bool, true, false, cond, ◌&&◌, Option, None, Some, option_map, option_and_then}
 use Rattle.std.proofs.Math.Path.{◌≡◌, refl, ap, subst}
 use Rattle.std.proofs.Common.{sym, ◌∙◌, inl, inr, arith}
-use Rattle.std.proofs.Math.Option.{Option, none, some, map, bind}
 use Rattle.std.proofs.Math.Decide.{ℕ_discrete}
 use Rattle.std.proofs.Math.Dec.{T}
 use Rattle.lists.specs.Lists.{from, keep}
@@ -22,8 +21,8 @@ pub record Descent (d : ℕ → ℕ → Bool) : Type 0 where
 
 -- none where no number has P; else one with P that descends from every other with P
 unfoldable pub IsNearest : (ℕ → ℕ → Bool) → (ℕ → Type 0) → Option ℕ → Type 0
-IsNearest d P none = (x : ℕ) → P x → ⊥
-IsNearest d P (some f) = P f × ((x : ℕ) → P x → T (d f x))
+IsNearest d P None = (x : ℕ) → P x → ⊥
+IsNearest d P (Some f) = P f × ((x : ℕ) → P x → T (d f x))
 
 -- a common ancestor of two
 abbrev pub Common : (ℕ → ℕ → Bool) → ℕ → ℕ → ℕ → Type 0
@@ -43,45 +42,45 @@ module _ (d : ℕ → ℕ → Bool) (o : Descent d) where
   -- there is one answer
   pub nearest_one : (P : ℕ → Type 0) (p q : Option ℕ) → IsNearest d P p → IsNearest d P q → p ≡ q
   unfolding IsNearest
-  nearest_one P none none a b = refl
-  nearest_one P none (some g) a b = absurd (a g b.0)
-  nearest_one P (some f) none a b = absurd (b f a.0)
-  nearest_one P (some f) (some g) a b = ap some (o.same f g (a.1 g b.0) (b.1 f a.0))
+  nearest_one P None None a b = refl
+  nearest_one P None (Some g) a b = absurd (a g b.0)
+  nearest_one P (Some f) None a b = absurd (b f a.0)
+  nearest_one P (Some f) (Some g) a b = ap Some (o.same f g (a.1 g b.0) (b.1 f a.0))
 
   -- ── laws ──
 
   -- for what holds of the same numbers
   pub nearest_also : (P Q : ℕ → Type 0) → ((x : ℕ) → P x ↔ Q x) → (p : Option ℕ) → IsNearest d P p → IsNearest d Q p
   unfolding IsNearest
-  nearest_also P Q e none h = λ x q. h x ((e x).1 q)
-  nearest_also P Q e (some f) h = ((e f).0 h.0, λ x q. h.1 x ((e x).1 q))
+  nearest_also P Q e None h = λ x q. h x ((e x).1 q)
+  nearest_also P Q e (Some f) h = ((e f).0 h.0, λ x q. h.1 x ((e x).1 q))
 
   pub turned : (t u : ℕ) (p : Option ℕ) → IsNearest d (Common d t u) p → IsNearest d (Common d u t) p
   turned t u p h = nearest_also (Common d t u) (Common d u t) (λ x. (λ k. (k.1, k.0), λ k. (k.1, k.0))) p h
 
-  pub with_itself : (t : ℕ) → T (d t t) → IsNearest d (Common d t t) (some t)
+  pub with_itself : (t : ℕ) → T (d t t) → IsNearest d (Common d t t) (Some t)
   unfolding IsNearest
   with_itself t h = ((h, h), λ x k. k.0)
 
   -- the nearest of the nearest of two and a third is that of all three; none swallows all
   pub grouped : (t u v : ℕ) (near : ℕ → Option ℕ) → ((f : ℕ) → IsNearest d (Common d f v) (near f)) →
-      (p : Option ℕ) → IsNearest d (Common d t u) p → IsNearest d (λ x. Common d t u x × T (d v x)) (bind p near)
-  unfolding IsNearest bind
-  grouped t u v near h none k = λ x a. k x a.0
-  grouped t u v near h (some f) k = joined (near f) (h f)
+      (p : Option ℕ) → IsNearest d (Common d t u) p → IsNearest d (λ x. Common d t u x × T (d v x)) (option_and_then near p)
+  unfolding IsNearest
+  grouped t u v near h None k = λ x a. k x a.0
+  grouped t u v near h (Some f) k = joined (near f) (h f)
     where
       joined : (q : Option ℕ) → IsNearest d (Common d f v) q → IsNearest d (λ x. Common d t u x × T (d v x)) q
-      joined none e = λ x a. e x (k.1 x a.0, a.1)
-      joined (some g) e = (
+      joined None e = λ x a. e x (k.1 x a.0, a.1)
+      joined (Some g) e = (
         ((o.through t f g k.0.0 e.0.0, o.through u f g k.0.1 e.0.0), e.0.1),
         λ x a. e.1 x (k.1 x a.0, a.1),
       )
 
   -- both descend from a given family exactly where their nearest family exists and descends from it
-  pub both_from : (t u a : ℕ) (p : Option ℕ) → IsNearest d (Common d t u) p → Common d t u a ↔ ((f : ℕ) × (p ≡ some f) × T (d f a))
+  pub both_from : (t u a : ℕ) (p : Option ℕ) → IsNearest d (Common d t u) p → Common d t u a ↔ ((f : ℕ) × (p ≡ Some f) × T (d f a))
   unfolding IsNearest
-  both_from t u a none h = (λ k. absurd (h a k), λ k. let e = k.1 in let z : ◌≡◌ {A = ℕ} 0 1 = cc in absurd (omega arith))
-  both_from t u a (some f) h = (
+  both_from t u a None h = (λ k. absurd (h a k), λ k. let e = k.1 in let z : ◌≡◌ {A = ℕ} 0 1 = cc in absurd (omega arith))
+  both_from t u a (Some f) h = (
     λ k. (f, refl, h.1 a k),
     λ k.
         let e = k.1 in
@@ -118,8 +117,8 @@ module _ (d : ℕ → ℕ → Bool) (o : Descent d) where
 
     best_nearest : (p : Option ℕ) → IsBest beats (keep common (from 0 n)) p → IsNearest d (Common d t u) p
     unfolding IsBest IsNearest
-    best_nearest none h = λ x k. absurd (omega (arith, h x, common_in x k))
-    best_nearest (some f) h =
+    best_nearest None h = λ x k. absurd (omega (arith, h x, common_in x k))
+    best_nearest (Some f) h =
         let m = in_common f h.0 in
         (m, λ x k. no_worse f x m.0 k.0 (h.1 x (common_in x k)))
 
@@ -135,10 +134,10 @@ module _ (d e : ℕ → ℕ → Bool) (π ρ : ℕ → ℕ) (forth : (x : ℕ) �
   back : (t x : ℕ) → T (e (π t) x) → T (d t (ρ x))
   back t x h = subst T (sym (alike t (ρ x))) (subst (λ y. T (e (π t) y)) (sym (forth x)) h)
 
-  pub nearest_moved : (t u : ℕ) (p : Option ℕ) → IsNearest d (Common d t u) p → IsNearest e (Common e (π t) (π u)) (map π p)
+  pub nearest_moved : (t u : ℕ) (p : Option ℕ) → IsNearest d (Common d t u) p → IsNearest e (Common e (π t) (π u)) (option_map π p)
   unfolding IsNearest
-  nearest_moved t u none h = λ x k. h (ρ x) (back t x k.0, back u x k.1)
-  nearest_moved t u (some f) h = (
+  nearest_moved t u None h = λ x k. h (ρ x) (back t x k.0, back u x k.1)
+  nearest_moved t u (Some f) h = (
     (there t f h.0.0, there u f h.0.1),
     λ x k. subst (λ y. T (e (π f) y)) (forth x) (there f (ρ x) (h.1 (ρ x) (back t x k.0, back u x k.1))),
   )

@@ -1,9 +1,8 @@
 -- The nearest family of two by declared parents: what it is, and its laws.
-use Rattle.std.specs.Prelude.{ℕ, ◌↔◌, List, Bool, eqb, length}
+use Rattle.std.specs.Prelude.{ℕ, ◌↔◌, List, Bool, eqb, length, Option, None, Some, option_map, option_and_then}
 use Rattle.std.proofs.Math.Path.{◌≡◌, refl}
 use Rattle.std.proofs.Common.{sym, ◌∙◌, subst, arith}
 use Rattle.std.proofs.Math.Bool.{true, false}
-use Rattle.std.proofs.Math.Option.{Option, none, some, map, bind}
 use Rattle.std.proofs.Math.Dec.{T, eqb→eq}
 use borrow.Author.Tests.{lt-ltb}
 use Rattle.lists.specs.Best.{best}
@@ -62,15 +61,15 @@ module _ (most : ℕ) (types : List TypeDef) (rule : ChainRule most types) where
   nearest_turned t u =
       nearest_one d o (Common d t u) (near t u) (near u t) (nearest_holds t u) (turned d o u t (near u t) (nearest_holds u t))
 
-  pub nearest_self : (t : ℕ) → T (is_struct (type_at types t)) → near t t ≡ some t
+  pub nearest_self : (t : ℕ) → T (is_struct (type_at types t)) → near t t ≡ Some t
   nearest_self t s =
-      nearest_one d o (Common d t t) (near t t) (some t) (nearest_holds t t) (with_itself d o t (from_itself most types rule t s))
+      nearest_one d o (Common d t t) (near t t) (Some t) (nearest_holds t t) (with_itself d o t (from_itself most types rule t s))
 
   -- three are grouped either way, none swallowing all
-  pub nearest_three : (t u v : ℕ) → bind (near t u) (λ f. near f v) ≡ bind (near u v) (λ f. near t f)
+  pub nearest_three : (t u v : ℕ) → option_and_then (λ f. near f v) (near t u) ≡ option_and_then (λ f. near t f) (near u v)
   nearest_three t u v =
-      let left = bind (near t u) (λ f. near f v) in
-      let right = bind (near u v) (λ f. near t f) in
+      let left = option_and_then (λ f. near f v) (near t u) in
+      let right = option_and_then (λ f. near t f) (near u v) in
       nearest_one d o (λ x. Common d t u x × T (d v x)) left right
       (grouped d o t u v (λ f. near f v) (λ f. nearest_holds f v) (near t u) (nearest_holds t u))
       (nearest_also d o (λ x. Common d u v x × T (d t x)) (λ x. Common d t u x × T (d v x))
@@ -78,7 +77,7 @@ module _ (most : ℕ) (types : List TypeDef) (rule : ChainRule most types) where
       (grouped d o u v t (λ f. near t f) (λ f. turned d o t f (near t f) (nearest_holds t f)) (near u v) (nearest_holds u v)))
 
   -- both descend from a exactly where the nearest family exists and descends from it
-  pub nearest_both : (t u a : ℕ) → (T (d t a) × T (d u a)) ↔ ((f : ℕ) × (near t u ≡ some f) × T (d f a))
+  pub nearest_both : (t u a : ℕ) → (T (d t a) × T (d u a)) ↔ ((f : ℕ) × (near t u ≡ Some f) × T (d f a))
   nearest_both t u a = both_from d o t u a (near t u) (nearest_holds t u)
 
   -- ── none ──
@@ -112,15 +111,15 @@ module _ (most : ℕ) (types : List TypeDef) (rule : ChainRule most types) where
       (from_root t k.0, subst (λ x. T (d u x)) (sym k.2) (from_root u k.1))
 
   -- none exactly where the roots differ or a number is no struct type
-  pub nearest_none : (t u : ℕ) → (near t u ≡ none) ↔ (have_one_root most types t u ≡ false)
+  pub nearest_none : (t u : ℕ) → (near t u ≡ None) ↔ (have_one_root most types t u ≡ false)
   unfolding IsNearest
   nearest_none t u = go (near t u) (nearest_holds t u) (have_one_root most types t u) refl
     where
-      go : (p : Option ℕ) → IsNearest d (Common d t u) p → (b : Bool) → have_one_root most types t u ≡ b → (p ≡ none) ↔ (b ≡ false)
-      go none h false e = (λ q. refl, λ q. refl)
-      go none h true e = absurd (h (root_of most types t) (root_common t u (subst T (sym e) tt)))
-      go (some f) h false e = absurd (subst T e (common_root t u f h.0))
-      go (some f) h true e = (
+      go : (p : Option ℕ) → IsNearest d (Common d t u) p → (b : Bool) → have_one_root most types t u ≡ b → (p ≡ None) ↔ (b ≡ false)
+      go None h false e = (λ q. refl, λ q. refl)
+      go None h true e = absurd (h (root_of most types t) (root_common t u (subst T (sym e) tt)))
+      go (Some f) h false e = absurd (subst T e (common_root t u f h.0))
+      go (Some f) h true e = (
         λ q. let w : ◌≡◌ {A = ℕ} 0 1 = cc in absurd (omega arith),
         λ q. let w : ◌≡◌ {A = ℕ} 0 1 = cc in absurd (omega arith),
       )
@@ -130,10 +129,10 @@ module _ (most : ℕ) (types : List TypeDef) (rule : ChainRule most types) where
 -- the nearest family of the images is the image of the nearest family
 pub nearest_image : (most : ℕ) (types types' : List TypeDef) → ChainRule most types → ChainRule most types' →
     (π ρ : ℕ → ℕ) → ((x : ℕ) → π (ρ x) ≡ x) → ((t a : ℕ) → is_from most types t a ≡ is_from most types' (π t) (π a)) →
-    (t u : ℕ) → nearest most types' (π t) (π u) ≡ map π (nearest most types t u)
+    (t u : ℕ) → nearest most types' (π t) (π u) ≡ option_map π (nearest most types t u)
 nearest_image most types types' rule rule' π ρ forth alike t u =
     let e = is_from most types' in
     nearest_one e (descent most types' rule') (Common e (π t) (π u))
-    (nearest most types' (π t) (π u)) (map π (nearest most types t u))
+    (nearest most types' (π t) (π u)) (option_map π (nearest most types t u))
     (nearest_holds most types' rule' (π t) (π u))
     (nearest_moved (is_from most types) e π ρ forth alike t u (nearest most types t u) (nearest_holds most types rule t u))

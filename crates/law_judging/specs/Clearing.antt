@@ -5,10 +5,10 @@ use Rattle.std.proofs.Common.{ap, ◌∙◌, arith, add-one}
 use Rattle.lists.specs.Lists.{concat_map_from}
 use Rattle.error.specs.declared.LoadErrorKind.{LoadErrorKind}
 use Rattle.error.specs.declared.LoadError.{LoadError}
-use Rattle.error.specs.declared.Verdict.{Verdict}
-use Rattle.error.specs.declared.Verdict.TheVariants.{Holds, Broken}
-use Rattle.error.specs.declared.Judged.{Judged}
-use Rattle.error.specs.declared.Judged.TheVariants.{Passed, Refused}
+use Rattle.error.specs.Verdict.{Verdict}
+use Rattle.std.specs.Prelude.{Err, Ok}
+use Rattle.error.specs.Verdict.{Judged}
+use Rattle.std.specs.Prelude.{Err, Ok}
 use Rattle.error.specs.Verdict.{verdict_of, judged_of}
 use Rattle.error.specs.VerdictLaws.{none_broken, verdict_stop, none_refused, judged_stop}
 
@@ -47,29 +47,29 @@ module _ {A B : Type 0} (faults : ℕ → A → List B) (xs : List A) where
 -- ── with the verdicts of code ──
 
 module _ {A : Type 0} (faults : ℕ → A → List LoadErrorKind) (xs : List A) (i : ℕ) (x : Clears faults xs i) where
-  pub clears_holds : length xs ≤ i → Holds ≡ verdict_of (concat_map_from 0 faults xs)
+  pub clears_holds : length xs ≤ i → Ok tt ≡ verdict_of (concat_map_from 0 faults xs)
   unfolding verdict_of
   clears_holds h = sym (ap verdict_of (clears_end faults xs i x h))
 
   module _ (d : A) {r : Verdict} (h : i < length xs) where
-    pub clears_pass : r ≡ Holds → r ≡ verdict_of (faults i (get_or xs i d)) → Clears faults xs (i + 1)
+    pub clears_pass : r ≡ Ok tt → r ≡ verdict_of (faults i (get_or xs i d)) → Clears faults xs (i + 1)
     clears_pass e k = clears_next faults xs i x d h (none_broken (faults i (get_or xs i d)) e k)
 
-    pub clears_stop : {b : LoadErrorKind} → r ≡ Broken b → r ≡ verdict_of (faults i (get_or xs i d)) → Broken b ≡ verdict_of (concat_map_from 0 faults xs)
+    pub clears_stop : {b : LoadErrorKind} → r ≡ Err b → r ≡ verdict_of (faults i (get_or xs i d)) → Err b ≡ verdict_of (concat_map_from 0 faults xs)
     clears_stop {b} e k =
         verdict_stop (faults i (get_or xs i d)) (concat_map_from (suc i) faults (drop (suc i) xs)) b e k ∙ sym (ap verdict_of (clears_split faults xs i x d h))
 
 -- ── with their places ──
 
 module _ {A : Type 0} (faults : ℕ → A → List LoadError) (xs : List A) (i : ℕ) (x : Clears faults xs i) where
-  pub clears_passed : length xs ≤ i → Passed ≡ judged_of (concat_map_from 0 faults xs)
+  pub clears_passed : length xs ≤ i → Ok tt ≡ judged_of (concat_map_from 0 faults xs)
   unfolding judged_of
   clears_passed h = sym (ap judged_of (clears_end faults xs i x h))
 
   module _ (d : A) {r : Judged} (h : i < length xs) where
-    pub clears_on : r ≡ Passed → r ≡ judged_of (faults i (get_or xs i d)) → Clears faults xs (i + 1)
+    pub clears_on : r ≡ Ok tt → r ≡ judged_of (faults i (get_or xs i d)) → Clears faults xs (i + 1)
     clears_on e k = clears_next faults xs i x d h (none_refused (faults i (get_or xs i d)) e k)
 
-    pub clears_refused : {b : LoadError} → r ≡ Refused b → r ≡ judged_of (faults i (get_or xs i d)) → Refused b ≡ judged_of (concat_map_from 0 faults xs)
+    pub clears_refused : {b : LoadError} → r ≡ Err b → r ≡ judged_of (faults i (get_or xs i d)) → Err b ≡ judged_of (concat_map_from 0 faults xs)
     clears_refused {b} e k =
         judged_stop (faults i (get_or xs i d)) (concat_map_from (suc i) faults (drop (suc i) xs)) b e k ∙ sym (ap judged_of (clears_split faults xs i x d h))

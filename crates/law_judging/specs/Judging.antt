@@ -8,8 +8,8 @@ use Rattle.lists.specs.Lists.{concat_map}
 use Rattle.blocks.specs.Blocks.{words}
 use Rattle.blocks.specs.Frame.{first_words}
 use Rattle.error.specs.declared.LoadErrorKind.{LoadErrorKind}
-use Rattle.error.specs.declared.Verdict.{Verdict}
-use Rattle.error.specs.declared.Verdict.TheVariants.{Holds, Broken}
+use Rattle.error.specs.Verdict.{Verdict}
+use Rattle.std.specs.Prelude.{Err, Ok}
 use Rattle.error.specs.Verdict.{verdict_of}
 use Rattle.error.specs.VerdictLaws.{verdict_then, verdict_stop}
 use Rattle.reader.specs.Reader.{Got, got, Reader, many, list_of}
@@ -30,7 +30,7 @@ module _ {A : Type 0} (f : Reader A) (faults : A → List LoadErrorKind) where
   judges_start b n at h e = record { whole = list_whole f b n at h e; same = ap (λ l. verdict_of (concat_map faults l)) (list_value f b n at [] h e) }
 
   module _ (ws : List ℕ) (at : ℕ) where
-    pub judges_end : (left q : ℕ) → Judges f faults ws at left q → left ≤ 0 → Holds ≡ verdict_of (list_faults faults (list_of f ws at))
+    pub judges_end : (left q : ℕ) → Judges f faults ws at left q → left ≤ 0 → Ok tt ≡ verdict_of (list_faults faults (list_of f ws at))
     unfolding list_faults many verdict_of value_of
     judges_end left q x h = let z : left ≡ 0 = omega arith in sym (x.same ∙ ap (λ k. verdict_of (list_faults faults (many k f ws q))) z)
 
@@ -47,11 +47,11 @@ module _ {A : Type 0} (f : Reader A) (faults : A → List LoadErrorKind) where
       unfolding list_faults
       split a q₂ ys e r = x.same ∙ ap (λ l. verdict_of (concat_map faults l)) (value_got [] r)
 
-      pub judges_stop : (d : A) {r : Verdict} (b : LoadErrorKind) → r ≡ Broken b → r ≡ verdict_of (faults (value_of d (f ws q))) → Broken b ≡ verdict_of (list_faults faults (list_of f ws at))
+      pub judges_stop : (d : A) {r : Verdict} (b : LoadErrorKind) → r ≡ Err b → r ≡ verdict_of (faults (value_of d (f ws q))) → Err b ≡ verdict_of (list_faults faults (list_of f ws at))
       judges_stop d b e k = ahead λ a q₂ ys s e₁ e₂ e₃.
           verdict_stop (faults a) (concat_map faults ys) b e (k ∙ ap (λ v. verdict_of (faults v)) (value_got d e₁)) ∙ sym (split a q₂ ys s e₃)
 
-      pub judges_next : (d : A) (q₂ : ℕ) {r : Verdict} → r ≡ Holds → r ≡ verdict_of (faults (value_of d (f ws q))) →
+      pub judges_next : (d : A) (q₂ : ℕ) {r : Verdict} → r ≡ Ok tt → r ≡ verdict_of (faults (value_of d (f ws q))) →
           ((a : A) (p : ℕ) → f ws q ≡ got a p → p ≡ q₂) → Judges f faults ws at (left - 1) q₂
       unfolding list_faults
       judges_next d q₂ e k ends = ahead λ a p ys s e₁ e₂ e₃.

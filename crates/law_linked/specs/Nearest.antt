@@ -1,5 +1,5 @@
 -- On the words that load left, the nearest family is that of the declared parents.
-use Rattle.std.specs.Prelude.{ℕ, ◌≤◌, ◌≡◌, refl, List, [], ◌++◌, true, ◌&&◌, T, length}
+use Rattle.std.specs.Prelude.{ℕ, ◌≤◌, ◌≡◌, refl, List, [], ◌++◌, true, ◌&&◌, T, length, Err}
 use Rattle.std.proofs.Math.Path.{ap, fun_ext}
 use Rattle.std.proofs.Common.{◌∙◌, arith}
 use borrow.Author.Tests.{lt-ltb}
@@ -12,7 +12,7 @@ use Rattle.spans.specs.Spans.{no_pre}
 use Rattle.table.specs.Table.{table_words}
 use Rattle.descends.specs.Descends.{span_count, is_within}
 use Rattle.descends.specs.Sizes.{width_in}
-use Rattle.descends.specs.declared.NearestFamily.TheVariants.{NotLinked}
+use Rattle.descends.specs.declared.QueryError.TheVariants.{NotLinked}
 use Rattle.descends.specs.Nearest.{holds_both, is_narrower, nearest_of, family_of, nearest_in}
 use Rattle.families.specs.Families.{is_from, common_families, nearest}
 use Rattle.law_counting.specs.BestLaws.{Ranks, by_least}
@@ -62,4 +62,4 @@ module _ (most : ℕ) (hosts : List HostFn) (m : Module) (rest : List ℕ) (kept
 
   pub nearest_answered : (t u : ℕ) → nearest_in left t u ≡ family_of (nearest most m.types t u)
   unfolding nearest_in
-  nearest_answered t u = if_linked most hosts m rest (family_of (nearest_of left t u)) NotLinked ∙ ap family_of (nearest_found t u)
+  nearest_answered t u = if_linked most hosts m rest (family_of (nearest_of left t u)) (Err NotLinked) ∙ ap family_of (nearest_found t u)

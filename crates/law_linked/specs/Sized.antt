@@ -1,5 +1,5 @@
 -- On the words that load left, a span is as wide as its family is large.
-use Rattle.std.specs.Prelude.{ℕ, ◌-◌, ◌≤◌, ◌<◌, ◌≡◌, List, [], ◌++◌, false, cond, T, length}
+use Rattle.std.specs.Prelude.{ℕ, ◌-◌, ◌≤◌, ◌<◌, ◌≡◌, List, [], ◌++◌, false, cond, T, length, Err, Ok}
 use Rattle.std.proofs.Math.Path.{ap, ap₂}
 use Rattle.std.proofs.Common.{◌∙◌, arith}
 use Rattle.lists.specs.ListLaws.{T_true, T_of}
@@ -9,7 +9,7 @@ use Rattle.parents.specs.Parents.{parents_faults}
 use Rattle.spans.specs.Spans.{no_pre}
 use Rattle.table.specs.Table.{table_words}
 use Rattle.descends.specs.Descends.{if_known, descends}
-use Rattle.descends.specs.declared.FamilySize.TheVariants.{Size, NotLinked}
+use Rattle.descends.specs.declared.QueryError.TheVariants.{NotLinked}
 use Rattle.descends.specs.Sizes.{width_in, size_in}
 use Rattle.families.specs.Families.{is_from, family_size}
 use Rattle.law_forest.specs.Once.{ChainRule}
@@ -47,7 +47,7 @@ module _ (most : ℕ) (hosts : List HostFn) (m : Module) (rest : List ℕ) (kept
       (λ s. width_is_size a (T_of (is_struct (type_at m.types a)) s)) (other_width a) (size_none most m.types rule a)
 
   -- every number has its family's size: what is no struct or no type has none
-  pub size_answered : (a : ℕ) → size_in left a ≡ Size (family_size most m.types a)
+  pub size_answered : (a : ℕ) → size_in left a ≡ Ok (family_size most m.types a)
   unfolding size_in
   size_answered a =
-      if_linked most hosts m rest (Size (if_known left a (width_in left a))) NotLinked ∙ ap Size (known_is_size a)
+      if_linked most hosts m rest (Ok (if_known left a (width_in left a))) (Err NotLinked) ∙ ap Ok (known_is_size a)

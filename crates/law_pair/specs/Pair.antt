@@ -1,10 +1,8 @@
 -- `numbering_free` is about something: two sheets that differ by a renumbering, two calls that accept them, and what is carried over.
-use Rattle.std.specs.Prelude.{◌≡◌, List, [], ◌∷◌, ◌++◌, ℕ, get_or, replicate}
+use Rattle.std.specs.Prelude.{◌≡◌, List, [], ◌∷◌, ◌++◌, ℕ, get_or, replicate, None, Ok}
 use Rattle.std.proofs.Math.Path.{refl}
 use Rattle.std.proofs.Common.{sym, ◌∙◌, arith}
-use Rattle.std.proofs.Math.Option.{none}
-use Rattle.error.specs.declared.Loaded.{Loaded}
-use Rattle.error.specs.declared.Loaded.TheVariants.{Accepted}
+use Rattle.error.specs.Answer.{Loaded}
 use Rattle.error.specs.Answer.{numbers}
 use Rattle.sheet.specs.Module.{dyn, func, TypeDef, struct, coroutine, Handler, Inst, Func, Module}
 use Rattle.sheet.specs.Encode.{sheet_of}
@@ -36,7 +34,7 @@ guarded =
     record {
       sig = 4;
       regs = dyn ∷ dyn ∷ dyn ∷ [];
-      params = none;
+      params = None;
       shapes = [];
       captures = [];
       names = [];
@@ -107,7 +105,7 @@ words s = get_or (numbers (answer s)) 2 0
 
 -- both sheets of an edition are accepted
 abbrev BothAccepted : ℕ → Type 0
-BothAccepted e = (answer (sheet_in e) ≡ Accepted (words (sheet_in e))) × (answer (turned_in e) ≡ Accepted (words (turned_in e)))
+BothAccepted e = (answer (sheet_in e) ≡ Ok (words (sheet_in e))) × (answer (turned_in e) ≡ Ok (words (turned_in e)))
 
 accepted : BothAccepted 1
 unfolding everything
@@ -117,7 +115,7 @@ accepted_second : BothAccepted 2
 unfolding everything
 accepted_second = (refl, refl)
 
-not_short : (s : List ℕ) → answer s ≡ Accepted (words s) → NotShort (answer s)
+not_short : (s : List ℕ) → answer s ≡ Ok (words s) → NotShort (answer s)
 unfolding NotShort
 not_short s e q = let z : ◌≡◌ {A = ℕ} 0 1 = cc in omega arith
 

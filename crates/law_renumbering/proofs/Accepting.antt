@@ -1,11 +1,10 @@
 -- What an accepted sheet's table holds.
-use Rattle.std.specs.Prelude.{◌≡◌, ◌↔◌, Bool, true, false, cond, List, [], ◌∷◌, ◌++◌, ℕ, ◌≤◌, ◌<◌, length, drop}
+use Rattle.std.specs.Prelude.{◌≡◌, ◌↔◌, Bool, true, false, cond, List, [], ◌∷◌, ◌++◌, ℕ, ◌≤◌, ◌<◌, length, drop, Option, None, Some, Ok}
 use Rattle.std.proofs.Math.Path.{refl, ap₂, subst}
 use Rattle.std.proofs.Common.{sym, ap, ◌∙◌, arith}
-use Rattle.std.proofs.Math.Option.{Option, none, some}
 use Rattle.std.proofs.Math.Dec.{T}
 use Rattle.error.specs.declared.LoadError.{LoadError}
-use Rattle.error.specs.declared.Loaded.{Loaded}
+use Rattle.error.specs.Answer.{Loaded}
 use Rattle.error.specs.Answer.{is_accepted, first}
 use Rattle.lists.specs.ListLaws.{T_true}
 use Rattle.sheet.specs.Module.{Module}
@@ -16,7 +15,6 @@ use Rattle.sheet.proofs.EditionLaws.{most_from_one}
 use Rattle.spans.specs.Spans.{no_pre, descends_by_span}
 use Rattle.table.specs.Table.{hook_section, table_of}
 use Rattle.descends.specs.Descends.{descends}
-use Rattle.descends.specs.declared.ChainLength.TheVariants.{Length}
 use Rattle.descends.specs.Lengths.{chain_length_in}
 use Rattle.families.specs.Families.{family_depth}
 use Rattle.load.specs.Load.{faults_of, long_enough, Opened, with_hosts, opening, answer, load, linked_over, table_then, table_after}
@@ -44,7 +42,7 @@ first_accepted l (e ∷ es) = (λ h. absurd h, λ q. let z : ◌≡◌ {A = ℕ}
 -- the host list of an accepted call, and what it left
 pub record Opening (hosts : List ℕ) (table : List ℕ) (m : Module) (after : List ℕ) : Type 0 where
   pub host_list : List HostFn
-  pub decodes : decode_hosts hosts ≡ some host_list
+  pub decodes : decode_hosts hosts ≡ Some host_list
   pub kept : faults_of host_list m ≡ []
   pub left : after ≡ table_of host_list m ++ drop (length (table_of host_list m)) table
 
@@ -55,13 +53,13 @@ over_table es linked table e = ap (λ (x : List LoadError). linked_over x linked
 opened_hosts : (hosts table : List ℕ) (m : Module) (enough : Bool) (o : Option (List HostFn)) → decode_hosts hosts ≡ o →
     T (is_accepted (answer (with_hosts enough m o))) → Opening hosts table m (table_then (with_hosts enough m o) table)
 unfolding with_hosts answer table_then is_accepted
-opened_hosts hosts table m enough none q h = absurd h
-opened_hosts hosts table m false (some hs) q h = absurd h
-opened_hosts hosts table m true (some hs) q h =
+opened_hosts hosts table m enough None q h = absurd h
+opened_hosts hosts table m false (Some hs) q h = absurd h
+opened_hosts hosts table m true (Some hs) q h =
     let k = (first_accepted (length (table_of hs m)) (faults_of hs m)).0 h in
     record { host_list = hs; decodes = q; kept = k; left = over_table (faults_of hs m) (table_of hs m) table k }
 
-module _ (hosts : List ℕ) (c : Call) (m : Module) (intact : decode c.sheet ≡ some m) where
+module _ (hosts : List ℕ) (c : Call) (m : Module) (intact : decode c.sheet ≡ Some m) where
   pub accepted_opening : T (accepts hosts c) → Opening hosts c.table m (leaves hosts c)
   unfolding accepts answers leaves load table_after
   accepted_opening h =
@@ -70,12 +68,12 @@ module _ (hosts : List ℕ) (c : Call) (m : Module) (intact : decode c.sheet ≡
       (opened_hosts hosts c.table m (long_enough c.sheet (length c.table) (length c.work)) (decode_hosts hosts) refl
       (subst (λ (o : Opened). T (is_accepted (answer o))) e h))
 
-  pub opening_accepted : LongEnough hosts c → (hs : List HostFn) → decode_hosts hosts ≡ some hs → faults_of hs m ≡ [] → T (accepts hosts c)
+  pub opening_accepted : LongEnough hosts c → (hs : List HostFn) → decode_hosts hosts ≡ Some hs → faults_of hs m ≡ [] → T (accepts hosts c)
   unfolding LongEnough accepts answers load with_hosts answer
   opening_accepted room hs q k = go (long_enough c.sheet (length c.table) (length c.work)) refl
     where
       opens : (b : Bool) → long_enough c.sheet (length c.table) (length c.work) ≡ b →
-          opening c.sheet hosts (length c.table) (length c.work) ≡ with_hosts b m (some hs)
+          opening c.sheet hosts (length c.table) (length c.work) ≡ with_hosts b m (Some hs)
       opens b e =
           opening_decoded c.sheet hosts (length c.table) (length c.work) m intact
           ∙ ap₂ (λ (b : Bool) (o : Option (List HostFn)). with_hosts b m o) e q
@@ -125,10 +123,10 @@ family_front hs m faultless few rest =
     }
 
 -- an intact sheet has fewer types than a span can number
-pub types_few : (sheet : List ℕ) (m : Module) → decode sheet ≡ some m → length m.types ≤ no_pre
+pub types_few : (sheet : List ℕ) (m : Module) → decode sheet ≡ Some m → length m.types ≤ no_pre
 types_few sheet m intact = omega (arith, decoded_few sheet m intact)
 
-pub family_left : (hosts : List ℕ) (c : Call) (m : Module) → decode c.sheet ≡ some m → T (accepts hosts c) → Family m (leaves hosts c)
+pub family_left : (hosts : List ℕ) (c : Call) (m : Module) → decode c.sheet ≡ Some m → T (accepts hosts c) → Family m (leaves hosts c)
 family_left hosts c m intact h =
     let o = accepted_opening hosts c m intact h in
     let rest = drop (length (table_of o.host_list m)) c.table in
@@ -138,7 +136,7 @@ family_left hosts c m intact h =
 
 -- the words that are read as chain lengths, hooks, canonical numbers and catch tables are those
 pub record Holds (m : Module) (table : List ℕ) : Type 0 where
-  pub lengths : (t : ℕ) → chain_length_in table t ≡ Length (family_depth (most_of m) m.types t)
+  pub lengths : (t : ℕ) → chain_length_in table t ≡ Ok (family_depth (most_of m) m.types t)
   pub hooks : hooks_in table ≡ hook_section m
   pub canonical : (t : ℕ) → t < length m.types → canon_in table t ≡ canon_type m.types t
   pub catches : (f : ℕ) → f < length m.funcs → catch_in table f ≡ catch_table (func_at m f)
@@ -151,7 +149,7 @@ holds_front hs m rest = record {
   catches = catch_found (most_of m) hs m rest;
 }
 
-pub holds_left : (hosts : List ℕ) (c : Call) (m : Module) → decode c.sheet ≡ some m → T (accepts hosts c) → Holds m (leaves hosts c)
+pub holds_left : (hosts : List ℕ) (c : Call) (m : Module) → decode c.sheet ≡ Some m → T (accepts hosts c) → Holds m (leaves hosts c)
 holds_left hosts c m intact h =
     let o = accepted_opening hosts c m intact h in
     subst (Holds m) (sym o.left) (holds_front o.host_list m (drop (length (table_of o.host_list m)) c.table))

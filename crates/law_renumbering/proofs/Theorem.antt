@@ -1,5 +1,5 @@
 -- The theorem on two sheets that differ by one renumbering.
-use Rattle.std.specs.Prelude.{◌≡◌, refl, ◌↔◌, List, [], ◌++◌, ℕ, ◌<◌, T, length}
+use Rattle.std.specs.Prelude.{◌≡◌, refl, ◌↔◌, List, [], ◌++◌, ℕ, ◌<◌, T, length, Ok}
 use Rattle.std.proofs.Math.Path.{sym, ap}
 use Rattle.std.proofs.Common.{◌∙◌, arith}
 use Rattle.std.proofs.Math.Decide.{ℕ_discrete}
@@ -15,7 +15,6 @@ use Rattle.code.specs.Callee.{func_at}
 use Rattle.table.specs.Records.{catch_table}
 use Rattle.table.specs.Table.{hook_section, table_of}
 use Rattle.descends.specs.Descends.{descends}
-use Rattle.descends.specs.declared.ChainLength.TheVariants.{Length}
 use Rattle.descends.specs.Lengths.{chain_length_in}
 use Rattle.load.specs.Load.{faults_of}
 use Rattle.law_faults.specs.Together.{Together}
@@ -67,7 +66,7 @@ module _ (r : List ℕ) (m : Module) (l : Listed (length m.types) r) (left left_
 module _ (r : List ℕ) (m : Module) (l : Listed (length m.types) r) (left left_also : List ℕ) (h : Holds m left) (k : Holds (renumber r m) left_also) where
   lengths_same : (t : ℕ) → chain_length_in left t ≡ chain_length_in left_also (image r t)
   unfolding renumber
-  lengths_same t = h.lengths t ∙ ap Length (depth_moved (moved r m l) (most_of m) t) ∙ sym (k.lengths (image r t))
+  lengths_same t = h.lengths t ∙ ap Ok (depth_moved (moved r m l) (most_of m) t) ∙ sym (k.lengths (image r t))
 
   hooks_same : hooks_in left ≡ hooks_in left_also
   hooks_same = h.hooks ∙ hooks_image r m ∙ sym k.hooks

@@ -1,9 +1,8 @@
 -- The parts of a type's image.
-use Rattle.std.specs.Prelude.{◌≡◌, true, false, ltb}
+use Rattle.std.specs.Prelude.{◌≡◌, true, false, ltb, Option, None, Some}
 use Rattle.std.proofs.Math.Path.{refl, sym, ap}
 use Rattle.std.proofs.Common.{◌∙◌, arith, eqb→eq, ltb-true, ne_eqb}
 use mathlib.Core.List.{List, [], ◌∷◌, map}
-use Rattle.std.proofs.Math.Option.{Option, none, some}
 use Prim.Native.Nat.{ℕ, zero, suc, ◌+◌}
 use Rattle.std.proofs.Math.Dec.{eqb}
 use Rattle.lists.specs.Lists.{all_of, concat_map, is_front}
@@ -132,8 +131,8 @@ module _ (π : ℕ → ℕ) where
   sig_image_lem coroutine = refl
 
   abbrev pub maybe_struct : Option Struct → Option Struct
-  maybe_struct none = none
-  maybe_struct (some s) = some (struct_image π s)
+  maybe_struct None = None
+  maybe_struct (Some s) = Some (struct_image π s)
 
   pub struct_image_lem : (d : TypeDef) → struct_of (type_image π d) ≡ maybe_struct (struct_of d)
   unfolding type_image struct_of
@@ -157,8 +156,8 @@ module _ (π : ℕ → ℕ) where
 
   entry_of_lem : (s : Option Struct) → entry_of (maybe_struct s) ≡ rename (entry_of s)
   unfolding entry_of struct_image
-  entry_of_lem none = refl
-  entry_of_lem (some s) = entry_plus s.parent+
+  entry_of_lem None = refl
+  entry_of_lem (Some s) = entry_plus s.parent+
 
   pub entry_image : (d : TypeDef) → entry (type_image π d) ≡ rename (entry d)
   unfolding entry

@@ -1,10 +1,9 @@
 -- Rules 4 and 5 under a renumbering.
-use Rattle.std.specs.Prelude.{◌≡◌, Bool, ◌&&◌, ◌||◌, leb, length}
+use Rattle.std.specs.Prelude.{◌≡◌, Bool, ◌&&◌, ◌||◌, leb, length, None, Some}
 use Rattle.std.proofs.Math.Path.{refl, sym, ap, ap₂}
 use Rattle.std.proofs.Common.{◌∙◌}
 use Rattle.std.proofs.Math.Bool.{not}
 use mathlib.Core.List.{List, [], ◌∷◌, map}
-use Rattle.std.proofs.Math.Option.{none, some}
 use Prim.Native.Nat.{ℕ, zero, suc}
 use Rattle.std.proofs.Math.Dec.{eqb}
 use Rattle.std.proofs.lemmas.List.{length-map}
@@ -88,8 +87,8 @@ module _ (r : List ℕ) (m : Module) (l : Listed (length m.types) r) where
 
     param_list : (o : ParamList) (vs : List ValueType) → Together (param_list_faults m o vs) (param_list_faults (renumber r m) o (map (value_image (image r)) vs))
     unfolding param_list_faults
-    param_list none vs = both_empty refl refl
-    param_list (some ps) vs = together_unless BadParamList BadParamList (ap (λ (b : Bool). valid_params ps && b) (sym (list_fits ps vs)))
+    param_list None vs = both_empty refl refl
+    param_list (Some ps) vs = together_unless BadParamList BadParamList (ap (λ (b : Bool). valid_params ps && b) (sym (list_fits ps vs)))
 
     pub param_list_together : (o : ParamList) (s : ℕ) →
         Together (param_list_faults m o (sig_params m s)) (param_list_faults (renumber r m) o (sig_params (renumber r m) (image r s)))

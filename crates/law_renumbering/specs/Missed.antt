@@ -1,5 +1,5 @@
 -- Kind 26 is never given: after the parent rules the walk misses no struct.
-use Rattle.std.specs.Prelude.{◌≡◌, refl, Bool, true, false, ◌||◌, List, [], ◌∷◌, ◌++◌, ℕ, ◌≤◌, length}
+use Rattle.std.specs.Prelude.{◌≡◌, refl, Bool, true, false, ◌||◌, List, [], ◌∷◌, ◌++◌, ℕ, ◌≤◌, length, Err}
 use Rattle.std.proofs.Common.{ap, arith}
 use Rattle.lists.specs.Lists.{all_of}
 use Rattle.table.specs.Table.{table_of}
@@ -7,7 +7,6 @@ use Rattle.law_faults.specs.Empty.{append_empty}
 use Rattle.error.specs.declared.LoadErrorKind.{LoadErrorKind}
 use Rattle.error.specs.declared.LoadErrorKind.TheVariants.{MissedStruct}
 use Rattle.error.specs.declared.LoadError.{LoadError}
-use Rattle.error.specs.declared.Loaded.TheVariants.{Refused}
 use Rattle.error.specs.Answer.{kind_numbers, first}
 use Rattle.sheet.specs.Module.{Module}
 use Rattle.host.specs.Host.{HostFn}
@@ -30,7 +29,7 @@ use Rattle.law_forest.proofs.AcceptedLaws.{walk_complete}
 
 -- the first fault, if there is one, is of kind 2 to 22, 27 or 28
 record Leads (es : List LoadError) : Type 0 where
-  lead : (l : ℕ) (e : LoadError) → first l es ≡ Refused e → of_exports e.kind ≡ true
+  lead : (l : ℕ) (e : LoadError) → first l es ≡ Err e → of_exports e.kind ≡ true
 
 -- a list whose faults are all of these kinds
 leads_all : (es : List LoadError) → all_of (λ e. judged e.kind) es ≡ true → Leads es
@@ -63,7 +62,7 @@ rules_lead most one hosts m =
     ⊕ record { lead = λ l e q. first_passes (λ e. of_exports e.kind) l (exports_faults m) e (exports_kinds m) q }
 
 -- load refuses for 1, 23 and 24, for 2 to 22, and for 27 and 28: for no other kind
-pub kinds_given : (sheet hosts : List ℕ) (table work : ℕ) (e : LoadError) → load sheet hosts table work ≡ Refused e →
+pub kinds_given : (sheet hosts : List ℕ) (table work : ℕ) (e : LoadError) → load sheet hosts table work ≡ Err e →
     (early e.kind || of_exports e.kind) ≡ true
 unfolding answer
 kinds_given sheet hosts table work e q = refused_cases sheet hosts table work e q
@@ -78,7 +77,7 @@ kinds_given sheet hosts table work e q = refused_cases sheet hosts table work e 
     either false t = t
 
 -- 26 is never given
-pub missed_never : (sheet hosts : List ℕ) (table work : ℕ) (e : LoadError) → load sheet hosts table work ≡ Refused e → e.kind ≡ MissedStruct → ⊥
+pub missed_never : (sheet hosts : List ℕ) (table work : ℕ) (e : LoadError) → load sheet hosts table work ≡ Err e → e.kind ≡ MissedStruct → ⊥
 unfolding early of_exports judged of_names kind_number kind_numbers
 missed_never sheet hosts table work e q n =
     let t = kinds_given sheet hosts table work e q in

@@ -1,11 +1,9 @@
 -- Inner words of demand 3, over the definitions alone; what is claimed is said of calls (calls/specs/Calls).
 -- Two intact sheets that differ by one renumbering of the types, load accepts both or refuses both, and what it leaves agrees.
-use Rattle.std.specs.Prelude.{◌≡◌, ◌↔◌, Bool, List, ℕ, ◌<◌, T, length}
-use Rattle.std.proofs.Math.Option.{some}
+use Rattle.std.specs.Prelude.{◌≡◌, ◌↔◌, Bool, List, ℕ, ◌<◌, T, length, Some, Err}
 use Rattle.error.specs.declared.LoadErrorKind.TheVariants.{ShortSlice}
 use Rattle.error.specs.Answer.{in_module, is_accepted}
-use Rattle.error.specs.declared.Loaded.{Loaded}
-use Rattle.error.specs.declared.Loaded.TheVariants.{Refused}
+use Rattle.error.specs.Answer.{Loaded}
 use Rattle.sheet.specs.Module.{Module}
 use Rattle.sheet.specs.Decode.{decode}
 use Rattle.spans.specs.Spans.{Descendant}
@@ -40,7 +38,7 @@ has_room c = long_enough c.sheet (length c.table) (length c.work)
 
 -- long enough: 24 is not given
 unfoldable pub LongEnough : List ℕ → Call → Type 0
-LongEnough hosts c = answers hosts c ≡ Refused (in_module ShortSlice) → ⊥
+LongEnough hosts c = answers hosts c ≡ Err (in_module ShortSlice) → ⊥
 
 unfoldable pub accepts : List ℕ → Call → Bool
 accepts hosts c = is_accepted (answers hosts c)
@@ -55,8 +53,8 @@ leaves hosts c = table_after c.sheet hosts c.table c.work
 pub record Renumbered (r first second : List ℕ) : Type 0 where
   pub source : Module
   pub renumbering : T (is_renumbering (length source.types) r)
-  pub decodes : decode first ≡ some source
-  pub decodes_also : decode second ≡ some (renumber r source)
+  pub decodes : decode first ≡ Some source
+  pub decodes_also : decode second ≡ Some (renumber r source)
 
 -- what two tables, as load left them, have in common
 pub record Agree (r : List ℕ) (m : Module) (left left_also : List ℕ) : Type 0 where

@@ -1,10 +1,9 @@
 -- Rules 2 and 3 under a renumbering.
-use Rattle.std.specs.Prelude.{◌≡◌, Bool, true, ℕ, zero, suc, ltb, length, take}
+use Rattle.std.specs.Prelude.{◌≡◌, Bool, true, ℕ, zero, suc, ltb, length, take, Option, None, Some}
 use Rattle.std.proofs.Math.Path.{refl, sym, ap, subst}
 use Rattle.std.proofs.Common.{ap₂, ◌∙◌}
 use mathlib.Core.List.{List, [], ◌∷◌}
 use mathlib.Core.List
-use Rattle.std.proofs.Math.Option.{Option, none, some}
 use Rattle.std.proofs.Math.Dec.{leb}
 use Rattle.std.proofs.lemmas.List.{length-map}
 use Rattle.lists.specs.Lists.{all_of, concat_map, is_front}
@@ -88,8 +87,8 @@ module _ (r : List ℕ) (m : Module) (l : Listed (length m.types) r) where
 -- ── rule 3 ──
 
 abbrev coded_struct : Option Struct → Bool
-coded_struct none = true
-coded_struct (some s) = all_of coded_field s.fields
+coded_struct None = true
+coded_struct (Some s) = all_of coded_field s.fields
 
 good_struct : (d : TypeDef) → coded_type d ≡ true → coded_struct (struct_of d) ≡ true
 unfolding coded_type struct_of
@@ -105,9 +104,9 @@ module _ (π ρ : ℕ → ℕ) (back : (t : ℕ) → ρ (π t) ≡ t) where
   front_option : (a b : Option Struct) → coded_struct a ≡ true → coded_struct b ≡ true →
       is_front (field_words (maybe_struct π a)) (field_words (maybe_struct π b)) ≡ is_front (field_words a) (field_words b)
   unfolding field_words struct_image
-  front_option none b g h = refl
-  front_option (some s) none g h = fields_front π ρ back s.fields [] g refl
-  front_option (some s) (some u) g h = fields_front π ρ back s.fields u.fields g h
+  front_option None b g h = refl
+  front_option (Some s) None g h = fields_front π ρ back s.fields [] g refl
+  front_option (Some s) (Some u) g h = fields_front π ρ back s.fields u.fields g h
 
 module _ {types types' : List TypeDef} {π ρ : ℕ → ℕ} (w : Moved types types' π ρ) (good : all_of coded_type types ≡ true) where
   struct_of_moved : (t : ℕ) → struct_of (type_at types' (π t)) ≡ maybe_struct π (struct_of (type_at types t))

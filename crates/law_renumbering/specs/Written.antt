@@ -1,8 +1,7 @@
 -- The renumbered module has a sheet, of as many words, and its bytes decode to it.
-use Rattle.std.specs.Prelude.{◌≡◌, refl, Bool, true, ◌&&◌, List, [], ◌∷◌, ℕ, ◌+◌, ◌≤◌, ◌<◌, max, T, leb}
+use Rattle.std.specs.Prelude.{◌≡◌, refl, Bool, true, ◌&&◌, List, [], ◌∷◌, ℕ, ◌+◌, ◌≤◌, ◌<◌, max, T, leb, Some}
 use Rattle.std.proofs.Math.Path.{sym, ap}
 use Rattle.std.proofs.Common.{◌∙◌, arith}
-use Rattle.std.proofs.Math.Option.{some}
 use Rattle.std.proofs.Math.Decide.{dec_lt}
 use Rattle.std.proofs.Math.ListN.{length}
 use Rattle.lists.specs.Lists.{all_of, concat_map, from}
@@ -127,13 +126,13 @@ unfolding well_coded
 renumbered_coded r m h c =
     let l = listed (length m.types) r h in
     let s = sheet_of m in
-    let d : decode s ≡ some m = decode_sheet m c in
+    let d : decode s ≡ Some m = decode_sheet m c in
     both
     (codes_kept r m l (decoded s m d).types ∙ and_first (coded_module m) (framable newest_edition m.edition (encode m)) c)
     (edition_kept r m (framable_kept newest_edition m.edition (length m.types) (encode m) (encode (renumber r m))
     (decoded_few s m d) (module_kept r m l) (well_framable m c)))
 
 -- the bytes of the second sheet decode to the renumbered module
-pub renumbered_decodes : (r s : List ℕ) (m : Module) → all_of is_byte s ≡ true → decode s ≡ some m → T (is_renumbering (length m.types) r) →
-    decode (sheet_of (renumber r m)) ≡ some (renumber r m)
+pub renumbered_decodes : (r s : List ℕ) (m : Module) → all_of is_byte s ≡ true → decode s ≡ Some m → T (is_renumbering (length m.types) r) →
+    decode (sheet_of (renumber r m)) ≡ Some (renumber r m)
 renumbered_decodes r s m b d h = decode_sheet (renumber r m) (renumbered_coded r m h (decode_coded s m b d))

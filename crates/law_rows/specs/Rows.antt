@@ -1,6 +1,5 @@
 -- The rows tried by hand: what the definitions give, beside what is stated.
-use Rattle.std.specs.Prelude.{ℕ, ◌+◌, ◌*◌, List, [], ◌∷◌, ◌++◌, map, ◌≡◌, Bool, true, take, replicate}
-use Rattle.std.proofs.Math.Option.{none, some}
+use Rattle.std.specs.Prelude.{ℕ, ◌+◌, ◌*◌, List, [], ◌∷◌, ◌++◌, map, ◌≡◌, Bool, true, take, replicate, None, Some}
 use Rattle.lists.specs.Lists.{all_of, same, from}
 use Rattle.blocks.specs.Blocks.{titled, written}
 use Rattle.error.specs.Answer.{numbers, refusal}
@@ -89,7 +88,7 @@ function_with ps s n hs is =
     }
 
 abbrev function : ℕ → ℕ → List Handler → List Inst → Func
-function = function_with none
+function = function_with None
 
 abbrev handler : ℕ → ℕ → Handler
 handler s e = record { start = s; end = e; target = 0; catch = 0 }
@@ -167,7 +166,7 @@ hosting e regs n ps d =
 
 -- a parameter list by its flags: 0 mandatory, 1 by reference, 2 optional, 3 both
 abbrev listed : List ℕ → ParamList
-listed flags = some (map (λ f. record { flags = f; name+ = 0 }) flags)
+listed flags = Some (map (λ f. record { flags = f; name+ = 0 }) flags)
 
 -- the surcharge, second of two, may be left out
 abbrev surcharge : ParamList
@@ -302,8 +301,8 @@ rows =
     ∷ call_passes 2 2 (listed (2 ∷ 2 ∷ [])) 0
     ∷ (called 2 2 (listed (0 ∷ 1 ∷ [])) 1, expecting 2 1)
     ∷ call_passes 2 2 (listed (1 ∷ 3 ∷ [])) 1
-    ∷ (called 2 2 none 1, expecting 2 1)
-    ∷ call_passes 2 2 none 2
+    ∷ (called 2 2 None 1, expecting 2 1)
+    ∷ call_passes 2 2 None 2
     ∷ call_passes 2 0 (listed []) 0
     ∷ (called 2 0 (listed []) 1, expecting 0 1)
     ∷ (hosted_of (hosting 2 3 2 surcharge 3), 3 ∷ 5 ∷ 3 ∷ 0 ∷ 1 ∷ 1 ∷ [])

@@ -1,62 +1,52 @@
 // A sheet of the most blocks, 4,096, is intact; the like of one block more is broken.
 #![tactic(auto)]
 
-ghost use Rattle.std.specs.Prelude.{◌≤◌, ◌<◌, length};
+ghost use Rattle.std.specs.Prelude.{◌≤◌};
 
-use open_layout::Checked;
 use std::io;
 
-fn report(rt: &impl Print, sheet: &[u8]) -> io::Result<()> {
-    match open_layout::check_sheet(sheet) {
-        Checked::Intact(_) => println!(rt; "intact"),
-        Checked::Broken => println!(rt; "broken"),
+// Of the first n blocks.
+fn report(rt: &impl Print, blocks: &[[u8; 512]; 4097], n: usize) -> io::Result<()>
+    requires { n ≤ 4097 }
+{
+    match open_layout::check_sheet(blocks[..n].as_flattened()) {
+        Some(_) => println!(rt; "intact"),
+        None => println!(rt; "broken"),
     }
 }
 
-// Blocks of zero bytes have their number as check word. Block 0 has one string of zeros that fills the rest; its check word is given.
-fn number_blocks(bytes: &mut [u8; 2097664]) {
-    for k in 1..4097 {
-        bytes[512 * k + 508] = (k % 256) as u8;
-        bytes[512 * k + 509] = (k / 256) as u8;
+fn put(block: &mut [u8; 512], at: usize, w: u32)
+    requires { at ≤ 508 }
+{
+    block[at..at + 4].copy_from_slice(&w.to_le_bytes());
+}
+
+// Blocks of zero bytes have their number as check word.
+fn number_blocks(blocks: &mut [[u8; 512]; 4097]) {
+    for (k, block) in blocks.iter_mut().enumerate() {
+        put(block, 508, k as u32);
     }
 }
 
-fn put(bytes: &mut [u8; 2097664], at: usize, w: usize)
-    requires { at < 2097660 }
-{
-    bytes[at] = (w % 256) as u8;
-    bytes[at + 1] = (w / 256 % 256) as u8;
-    bytes[at + 2] = (w / 65536 % 256) as u8;
-}
-
-fn report_front(rt: &impl Print, bytes: &[u8], n: usize) -> io::Result<()>
-    requires { n ≤ length bytes.now }
-{
-    report(rt, &bytes[..n])
-}
-
-fn report_array(rt: &impl Print, bytes: &[u8; 2097664], n: usize) -> io::Result<()>
-    requires { n ≤ 2097664 }
-{
-    report_front(rt, bytes, n)
+// Block 0 of a sheet of n words with one string of zeros, of so many octets that it fills the rest; its check word is given.
+fn put_first(block: &mut [u8; 512], n: u32, octets: u32, check: u32) {
+    put(block, 0, 1);
+    put(block, 4, n);
+    put(block, 8, 1);
+    put(block, 12, octets);
+    put(block, 508, check);
 }
 
 // 4,096 blocks are intact, the like with one block more are not.
 fn report_most(rt: &impl Print) -> io::Result<()> {
-    let mut bytes = [0u8; 2097664];
-    number_blocks(&mut bytes);
-    put(&mut bytes, 0, 1);
-    put(&mut bytes, 4, 520192);
-    put(&mut bytes, 8, 1);
-    put(&mut bytes, 12, 2080720);
-    put(&mut bytes, 508, 7342);
+    let mut blocks = [[0u8; 512]; 4097];
+    number_blocks(&mut blocks);
+    put_first(&mut blocks[0], 520192, 2080720, 7342);
     print!(rt; "4096 blocks ")?;
-    report_array(rt, &bytes, 2097152)?;
-    put(&mut bytes, 4, 520319);
-    put(&mut bytes, 12, 2081228);
-    put(&mut bytes, 508, 7953);
+    report(rt, &blocks, 4096)?;
+    put_first(&mut blocks[0], 520319, 2081228, 7953);
     print!(rt; "4097 blocks ")?;
-    report_array(rt, &bytes, 2097664)
+    report(rt, &blocks, 4097)
 }
 
 fn main(rt: HostRuntime) -> io::Result<()> {

@@ -9,36 +9,27 @@ use std::io;
 
 // Word i, and what parts it from the next; `left` words are left with it.
 fn print_word(rt: &impl Print, word: u32, i: usize, left: usize) -> io::Result<()> {
-    if i % 16 == 15 {
-        return println!(rt; "{word}");
-    }
-    if left == 1 {
+    if i % 16 == 15 || left == 1 {
         return println!(rt; "{word}");
     }
     print!(rt; "{word} ")
 }
 
 fn print_words(rt: &impl Print, words: &[u32], n: usize) -> io::Result<()> {
-    for i in 0..n {
-        if i < words.len() {
-            print_word(rt, words[i], i, n - i)?;
-        }
+    for (i, word) in words.iter().take(n).enumerate() {
+        print_word(rt, *word, i, n - i)?;
     }
     Ok(())
-}
-
-fn print_table(rt: &impl Print, table: &[u32; 16320], n: usize) -> io::Result<()> {
-    print_words(rt, table, n)
 }
 
 // 16 blocks hold N = 2,032 words, for which 64 + 8N words of table and of work are enough.
 fn report(rt: &impl Print, sheet: &[u8], hosts: &[u8]) -> io::Result<()> {
     let mut table = [0u32; 16320];
     let mut work = [0u32; 16320];
-    let answer = numbers(load(sheet, hosts, &mut table, &mut work));
-    print_numbers(rt, answer)?;
-    if answer.kind == 0 {
-        print_table(rt, &table, answer.number as usize)?;
+    let answer = load(sheet, hosts, &mut table, &mut work);
+    print_numbers(rt, numbers(answer))?;
+    if let Ok(words) = answer {
+        print_words(rt, &table, words as usize)?;
     }
     Ok(())
 }

@@ -1,7 +1,6 @@
 -- Load of a sheet that was written, and the room for its table.
-use Rattle.std.specs.Prelude.{ℕ, ◌≤◌, ◌≡◌, refl, List, Bool, true, false, leb, length}
+use Rattle.std.specs.Prelude.{ℕ, ◌≤◌, ◌≡◌, refl, List, Bool, true, false, leb, length, Option, None, Some}
 use Rattle.std.proofs.Common.{ap, ◌∙◌, arith, leb-true}
-use Rattle.std.proofs.Math.Option.{Option, none, some}
 use Rattle.lists.specs.Lists.{all_of}
 use Rattle.lists.specs.ListLaws.{and_first, and_second}
 use Rattle.blocks.specs.Blocks.{words, length_word}
@@ -17,7 +16,7 @@ use Rattle.load.specs.Load.{needed, fits, enough, long_enough, opened, with_host
 
 -- ── a sheet that was written ──
 
-pub opening_decoded : (sheet hosts : List ℕ) (table work : ℕ) (m : Module) → decode sheet ≡ some m
+pub opening_decoded : (sheet hosts : List ℕ) (table work : ℕ) (m : Module) → decode sheet ≡ Some m
     → opening sheet hosts table work ≡ with_hosts (long_enough sheet table work) m (decode_hosts hosts)
 unfolding opening with_module
 opening_decoded sheet hosts table work m e = ap (λ o. with_module (long_enough sheet table work) o (decode_hosts hosts)) e
@@ -35,21 +34,21 @@ load_sheet m hosts table work h = ap answer (opening_sheet m hosts table work h)
 -- ── what was opened ──
 
 hosts_opened : {C : Type 0} (b : Bool) (m₀ m : Module) (o : Option (List HostFn)) (hs : List HostFn) → with_hosts b m₀ o ≡ opened m hs
-    → (b ≡ true → m₀ ≡ m → o ≡ some hs → C) → C
+    → (b ≡ true → m₀ ≡ m → o ≡ Some hs → C) → C
 unfolding with_hosts
-hosts_opened b m₀ m none hs e f = let z : ◌≡◌ {A = ℕ} 0 1 = cc in absurd (omega arith)
-hosts_opened true m₀ m (some x) hs e f = let a : m₀ ≡ m = cc in let b : x ≡ hs = cc in f refl a (ap some b)
-hosts_opened false m₀ m (some x) hs e f = let z : ◌≡◌ {A = ℕ} 0 1 = cc in absurd (omega arith)
+hosts_opened b m₀ m None hs e f = let z : ◌≡◌ {A = ℕ} 0 1 = cc in absurd (omega arith)
+hosts_opened true m₀ m (Some x) hs e f = let a : m₀ ≡ m = cc in let b : x ≡ hs = cc in f refl a (ap Some b)
+hosts_opened false m₀ m (Some x) hs e f = let z : ◌≡◌ {A = ℕ} 0 1 = cc in absurd (omega arith)
 
 pub module_opened : {C : Type 0} (b : Bool) (d : Option Module) (m : Module) (o : Option (List HostFn)) (hs : List HostFn) → with_module b d o ≡ opened m hs
-    → (b ≡ true → d ≡ some m → o ≡ some hs → C) → C
+    → (b ≡ true → d ≡ Some m → o ≡ Some hs → C) → C
 unfolding with_module
-module_opened b none m o hs e f = let z : ◌≡◌ {A = ℕ} 0 1 = cc in absurd (omega arith)
-module_opened b (some m₀) m o hs e f = hosts_opened b m₀ m o hs e λ t a s. f t (ap some a) s
+module_opened b None m o hs e f = let z : ◌≡◌ {A = ℕ} 0 1 = cc in absurd (omega arith)
+module_opened b (Some m₀) m o hs e f = hosts_opened b m₀ m o hs e λ t a s. f t (ap Some a) s
 
 pub record Opens (sheet hosts : List ℕ) (table work : ℕ) (m : Module) (hs : List HostFn) : Type 0 where
-  pub holds : decode sheet ≡ some m
-  pub lists : decode_hosts hosts ≡ some hs
+  pub holds : decode sheet ≡ Some m
+  pub lists : decode_hosts hosts ≡ Some hs
   pub table_long : needed (length_word (words sheet)) ≤ table
   pub work_long : needed (length_word (words sheet)) ≤ work
 

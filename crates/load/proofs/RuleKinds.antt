@@ -1,9 +1,8 @@
 -- The rules give the kinds 2 to 22 and 26 to 28 only.
-use Rattle.std.specs.Prelude.{ℕ, zero, suc, ◌≡◌, List, [], ◌∷◌, ◌++◌, Bool, true, false, cond, ◌||◌, eqb, length, get_or}
+use Rattle.std.specs.Prelude.{ℕ, zero, suc, ◌≡◌, List, [], ◌∷◌, ◌++◌, Bool, true, false, cond, ◌||◌, eqb, length, get_or, None, Some}
 use Rattle.std.proofs.Math.Path.{refl}
 use Rattle.std.proofs.Common.{ap, ◌∙◌}
 use Rattle.std.proofs.Math.Bool.{or-true}
-use Rattle.std.proofs.Math.Option.{none, some}
 use Rattle.lists.specs.Lists.{all_of, concat_map_from}
 use Rattle.lists.specs.ListLaws.{all_imp, all_append}
 use Rattle.lists.specs.AllLaws.{all_join, all_map, all_each_from}
@@ -99,8 +98,8 @@ signature_kinds m t = simp parts
 
 params_kinds : (m : Module) (ps : ParamList) (vs : List ValueType) → all_of judged (param_list_faults m ps vs) ≡ true
 unfolding param_list_faults judged kind_number kind_numbers
-params_kinds m none vs = refl
-params_kinds m (some ps) vs = simp parts
+params_kinds m None vs = refl
+params_kinds m (Some ps) vs = simp parts
 
 import_kinds : (hosts : List HostFn) (m : Module) (i : Import) → all_of judged (import_faults hosts m i) ≡ true
 unfolding import_faults judged kind_number kind_numbers

@@ -1,16 +1,14 @@
 -- What table and work hold after load.
-use Rattle.std.specs.Prelude.{ℕ, ◌≤◌, Bool, take, drop}
+use Rattle.std.specs.Prelude.{ℕ, ◌≤◌, Bool, take, drop, Some, Err, Ok}
 use Rattle.std.proofs.Math.Path.{◌≡◌, refl, ap}
 use Rattle.std.proofs.Common.{sym, ◌∙◌, subst, arith, length-append, length-drop, take_at, drop_at}
 use mathlib.Core.List.{List, [], ◌∷◌, ◌++◌}
 use Rattle.std.proofs.Math.Bool.{true, false}
-use Rattle.std.proofs.Math.Option.{some}
 use Rattle.std.proofs.Math.ListN.{length, replicate}
 use Rattle.lists.specs.Lists.{all_of}
 use Rattle.blocks.specs.ByteLaws.{is_byte}
 use Rattle.error.specs.declared.LoadError.{LoadError}
-use Rattle.error.specs.declared.Loaded.{Loaded}
-use Rattle.error.specs.declared.Loaded.TheVariants.{Accepted, Refused}
+use Rattle.error.specs.Answer.{Loaded}
 use Rattle.error.specs.Answer.{first}
 use Rattle.sheet.specs.Module.{Module}
 use Rattle.sheet.specs.Decode.{decode}
@@ -25,12 +23,12 @@ use Rattle.load.proofs.KindLaws.{early, early_apart, opened_refused, refused_ear
 -- ── table ──
 
 -- what a refusal leaves of the table: all of it
-table_kept : (o : Opened) (table : List ℕ) (e : LoadError) → answer o ≡ Refused e → table_then o table ≡ table
+table_kept : (o : Opened) (table : List ℕ) (e : LoadError) → answer o ≡ Err e → table_then o table ≡ table
 unfolding answer table_then
 table_kept (refused k) table e q = refl
 table_kept (opened m hs) table e q = go (faults_of hs m) q
   where
-    go : (es : List LoadError) → first (length (table_of hs m)) es ≡ Refused e → linked_over es (table_of hs m) table ≡ table
+    go : (es : List LoadError) → first (length (table_of hs m)) es ≡ Err e → linked_over es (table_of hs m) table ≡ table
     go [] q = unfold first in let z : ◌≡◌ {A = ℕ} 0 1 = cc in absurd (omega arith)
     go (x ∷ es) q = unfold linked_over in refl
 
@@ -54,7 +52,7 @@ over_length (e ∷ es) linked table f = refl
 
 module _ (sheet hosts table work : List ℕ) where
   -- a refusal changes no table word
-  pub untouched_table : (e : LoadError) → load sheet hosts (length table) (length work) ≡ Refused e → table_after sheet hosts table work ≡ table
+  pub untouched_table : (e : LoadError) → load sheet hosts (length table) (length work) ≡ Err e → table_after sheet hosts table work ≡ table
   unfolding load table_after
   untouched_table e q = table_kept (opening sheet hosts (length table) (length work)) table e q
 
@@ -67,12 +65,12 @@ module _ (sheet hosts table work : List ℕ) where
       ∙ ap (λ (es : List LoadError). linked_over es (table_of k.host_list k.source) table) k.kept
 
   -- acceptance with l words changes the first l only, to the linked table
-  pub table_written : (l : ℕ) (m : Module) (hs : List HostFn) → load sheet hosts (length table) (length work) ≡ Accepted l
-      → decode sheet ≡ some m → decode_hosts hosts ≡ some hs → Written (table_of hs m) table (table_after sheet hosts table work) l
+  pub table_written : (l : ℕ) (m : Module) (hs : List HostFn) → load sheet hosts (length table) (length work) ≡ Ok l
+      → decode sheet ≡ Some m → decode_hosts hosts ≡ Some hs → Written (table_of hs m) table (table_after sheet hosts table work) l
   table_written l m hs q d o =
       let k = (accepted sheet hosts (length table) (length work) l).0 q in
-      let a : k.source ≡ m = let e : some k.source ≡ some m = sym k.decodes ∙ d in cc in
-      let b : k.host_list ≡ hs = let e : some k.host_list ≡ some hs = sym k.lists ∙ o in cc in
+      let a : k.source ≡ m = let e : Some k.source ≡ Some m = sym k.decodes ∙ d in cc in
+      let b : k.host_list ≡ hs = let e : Some k.host_list ≡ Some hs = sym k.lists ∙ o in cc in
       subst (λ (m : Module). Written (table_of hs m) table (table_after sheet hosts table work) l) a
       (subst (λ (hs : List HostFn). Written (table_of hs k.source) table (table_after sheet hosts table work) l) b
       (rw (over l k) (written_over (table_of k.host_list k.source) table l k.words)))
@@ -92,14 +90,14 @@ module _ (sheet hosts table work : List ℕ) where
 
 -- the answers 1, 23 and 24
 unfoldable pub before_rules : Loaded → Bool
-before_rules (Accepted l) = false
-before_rules (Refused e) = early e.kind
+before_rules (Ok l) = false
+before_rules (Err e) = early e.kind
 
 -- what was opened is not answered by 1, 23 or 24
 opened_late : (m : Module) (hs : List HostFn) (a : Loaded) → answer (opened m hs) ≡ a → before_rules a ≡ true → ⊥
 unfolding before_rules
-opened_late m hs (Accepted l) q b = let z : ◌≡◌ {A = ℕ} 0 1 = cc in omega arith
-opened_late m hs (Refused e) q b = let t = opened_refused m hs e q in let f = early_apart e.kind b in let z : ◌≡◌ {A = ℕ} 0 1 = cc in omega arith
+opened_late m hs (Ok l) q b = let z : ◌≡◌ {A = ℕ} 0 1 = cc in omega arith
+opened_late m hs (Err e) q b = let t = opened_refused m hs e q in let f = early_apart e.kind b in let z : ◌≡◌ {A = ℕ} 0 1 = cc in omega arith
 
 module _ (sheet hosts table work : List ℕ) where
   -- 1, 23 and 24 touch nothing

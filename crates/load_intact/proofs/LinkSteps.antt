@@ -7,8 +7,8 @@ use lib.ListN.{length, drop}
 use lib.Seq.{take-length}
 use Rattle.law_faults.specs.Empty.{append_empty}
 use Rattle.error.specs.declared.LoadError.{LoadError}
-use Rattle.error.specs.declared.Judged.{Judged}
-use Rattle.error.specs.declared.Loaded.TheVariants.{Accepted, Refused}
+use Rattle.error.specs.Verdict.{Judged}
+use Rattle.std.specs.Prelude.{Err, Ok}
 use Rattle.error.specs.Answer.{first}
 use Rattle.error.specs.Verdict.{judged_of}
 use Rattle.error.specs.VerdictLaws.{none_refused}
@@ -37,19 +37,19 @@ use Rattle.load_intact.specs.Linking.{Fits, answered, table_left}
 -- ── refused ──
 
 module _ (hosts : List HostFn) (m : Module) {j : Judged} (e : j ≡ judged_of (faults_of hosts m)) where
-  pub answer_refused : (b : LoadError) → j ≡ Judged.Refused b → Refused b ≡ answered hosts m
+  pub answer_refused : (b : LoadError) → j ≡ Err b → Err b ≡ answered hosts m
   unfolding answered
   answer_refused b h = go (faults_of hosts m) (sym h ∙ e)
     where
-      go : (fs : List LoadError) → Judged.Refused b ≡ judged_of fs → Refused b ≡ first (length (table_of hosts m)) fs
+      go : (fs : List LoadError) → Err b ≡ judged_of fs → Err b ≡ first (length (table_of hosts m)) fs
       go [] q = unfold judged_of in let z : ◌≡◌ {A = ℕ} 0 1 = cc in absurd (omega arith)
-      go (f ∷ fs) q = unfold judged_of first in let z : b ≡ f = cc in ap Refused z
+      go (f ∷ fs) q = unfold judged_of first in let z : b ≡ f = cc in ap Err z
 
-  pub table_refused : (b : LoadError) (table : List ℕ) → j ≡ Judged.Refused b → table ≡ table_left hosts m table
+  pub table_refused : (b : LoadError) (table : List ℕ) → j ≡ Err b → table ≡ table_left hosts m table
   unfolding table_left
   table_refused b table h = go (faults_of hosts m) (sym h ∙ e)
     where
-      go : (fs : List LoadError) → Judged.Refused b ≡ judged_of fs → table ≡ linked_over fs (table_of hosts m) table
+      go : (fs : List LoadError) → Err b ≡ judged_of fs → table ≡ linked_over fs (table_of hosts m) table
       go [] q = unfold judged_of in let z : ◌≡◌ {A = ℕ} 0 1 = cc in absurd (omega arith)
       go (f ∷ fs) q = unfold linked_over in refl
 
@@ -87,7 +87,7 @@ module _ (hosts : List HostFn) (m : Module) (e : faults_of hosts m ≡ []) where
       (consts_faults most_deep m) (imports_faults hosts m) (globals_faults m) (funcs_faults m)
       (codes_faults m) (hooks_faults m) (start_faults m) (exports_faults m) e
 
-  accepted : Accepted (length (table_of hosts m)) ≡ answered hosts m
+  accepted : Ok (length (table_of hosts m)) ≡ answered hosts m
   unfolding answered first
   accepted = sym (ap (first (length (table_of hosts m))) e)
 
@@ -100,7 +100,7 @@ module _ (hosts : List HostFn) (m : Module) (e : faults_of hosts m ≡ []) where
       ∙ sym (ap (λ (fs : List LoadError). linked_over fs xs table) e)
 
 module _ (ws v : List ℕ) (o : Opened) (hosts : List HostFn) {j : Judged}
-    (passed : j ≡ Judged.Passed) (judged : j ≡ judged_of (faults_of hosts (module_in ws)))
+    (passed : j ≡ Ok tt) (judged : j ≡ judged_of (faults_of hosts (module_in ws)))
     (x : Ready ws v o) (l : LinkedIf j hosts ws v o) where
   none : faults_of hosts (module_in ws) ≡ []
   none = none_refused (faults_of hosts (module_in ws)) passed judged
@@ -145,8 +145,8 @@ module _ (ws v : List ℕ) (o : Opened) (hosts : List HostFn) {j : Judged}
     pub end_small : {r : ℕ} → r ≡ length (table_by ws v o) → r < 4294967296
     end_small e = omega (arith, e, table_small)
 
-    pub answer_passed : {r : ℕ} → r ≡ length (table_by ws v o) → Accepted r ≡ answered hosts (module_in ws)
-    answer_passed e = ap Accepted (e ∙ ap length table_is) ∙ accepted hosts (module_in ws) none
+    pub answer_passed : {r : ℕ} → r ≡ length (table_by ws v o) → Ok r ≡ answered hosts (module_in ws)
+    answer_passed e = ap Ok (e ∙ ap length table_is) ∙ accepted hosts (module_in ws) none
 
     pub table_passed : {t : List ℕ} → t ≡ written table 0 (table_by ws v o) → t ≡ table_left hosts (module_in ws) table
     table_passed e = e ∙ ap (written table 0) table_is ∙ linked hosts (module_in ws) none table

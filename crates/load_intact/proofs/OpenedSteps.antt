@@ -3,7 +3,7 @@ use Prim.Native.Nat.{ℕ}
 use mathlib.Core.Path.{◌≡◌, sym, ap, subst, ◌∙◌}
 use mathlib.Core.List.{List}
 use Rattle.blocks.specs.Frame.{first_words}
-use Rattle.error.specs.declared.Loaded.{Loaded}
+use Rattle.error.specs.Answer.{Loaded}
 use Rattle.host.specs.Host.{HostFn}
 use Rattle.open_layout.specs.declared.Layout.{Layout}
 use Rattle.open_layout.specs.Opened.{module_in}

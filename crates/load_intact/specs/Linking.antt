@@ -1,6 +1,6 @@
 -- What load answers and leaves once the inputs are intact.
 use Rattle.std.specs.Prelude.{ℕ, ◌≤◌, ◌<◌, List, length}
-use Rattle.error.specs.declared.Loaded.{Loaded}
+use Rattle.error.specs.Answer.{Loaded}
 use Rattle.error.specs.Answer.{first}
 use Rattle.sheet.specs.Module.{Module}
 use Rattle.host.specs.Host.{HostFn}

@@ -12,7 +12,7 @@ ghost use Rattle.open_sheet.specs.Ready.{Ready, sheet_words, module_of};
 ghost use Rattle.rules.specs.OpenedLaws.{Zeroed};
 ghost use Rattle.load_intact.specs.Linking.{Fits, answered, table_left};
 
-use error::{Judged, Loaded};
+use error::LoadError;
 use open_layout::Layout;
 use open_sheet::{Opened, open_sheet};
 use region::fill;
@@ -28,7 +28,7 @@ fn link_module(
     o: Opened,
     table: &mut [u32],
     work: &mut [u32],
-) -> Loaded
+) -> Result<u32, LoadError>
     requires ready { Ready (sheet_words sheet.now o) work.old o }
     requires words_bound { o.layout.words ≤ 520192 }
     requires sorted_hosts { SortedHosts (first_words hosts.now n) index.now }
@@ -36,13 +36,9 @@ fn link_module(
     ensures value { result ≡ answered (hosts_in (first_words hosts.now n)) (module_of sheet.now o) }
     ensures table_after { table.new ≡ table_left (hosts_in (first_words hosts.now n)) (module_of sheet.now o) table.old }
 {
-    match check_module(sheet, work, o, hosts, n, index) {
-        Judged::Passed => {
-            let end = write_table(sheet, work, o, table);
-            Loaded::Accepted(end as u32)
-        }
-        Judged::Refused(e) => Loaded::Refused(e),
-    }
+    check_module(sheet, work, o, hosts, n, index)?;
+    let end = write_table(sheet, work, o, table);
+    Ok(end as u32)
 }
 
 // Work is zero after the rules.
@@ -54,7 +50,7 @@ pub fn load_intact(
     index: &[u32],
     table: &mut [u32],
     work: &mut [u32],
-) -> Loaded
+) -> Result<u32, LoadError>
     requires located { Located (first_words sheet.now l.words) (module_in (first_words sheet.now l.words)) l }
     requires words_bound { l.words ≤ 520192 }
     requires words_in_bounds { 64 + 8 * l.words ≤ length work.old }

@@ -9,14 +9,14 @@ use Rattle.lists.specs.Lists.{all_of}
 use Rattle.blocks.specs.ByteLaws.{is_byte}
 use Rattle.blocks.specs.Frame.{first_words}
 use Rattle.error.specs.declared.LoadErrorKind.{LoadErrorKind}
-use Rattle.error.specs.declared.Loaded.{Loaded}
-use Rattle.error.specs.declared.Loaded.TheVariants.{Refused}
+use Rattle.error.specs.Answer.{Loaded}
+use Rattle.std.specs.Prelude.{Result, Err, Ok}
 use Rattle.error.specs.Answer.{in_module}
 use Rattle.sheet.proofs.SheetLaws.{decode_length}
 use Rattle.host.specs.Listed.{listed_of, hosts_in}
 use Rattle.open_hosts.specs.Sorted.{SortedHosts}
 use Rattle.open_layout.specs.declared.Layout.{Layout}
-use Rattle.open_layout.specs.Layout.{layout, checked_of}
+use Rattle.open_layout.specs.Layout.{layout}
 use Rattle.open_layout.specs.LayoutLaws.{Located}
 use Rattle.open_layout.specs.Opened.{module_in}
 use Rattle.sheet.specs.Editions.{most_of}
@@ -24,7 +24,6 @@ use Rattle.table.proofs.TableLaws.{table_few}
 use Rattle.load.specs.Load as load
 use Rattle.load.specs.Load.{refused, opened, opening, answer, load, table_then, table_after, work_then, work_after}
 use Rattle.load.proofs.LoadLaws.{opening_inv, linked_fits}
-use Rattle.open_inputs.specs.declared.Inputs.{Inputs}
 use Rattle.open_inputs.specs.Inputs.{inputs_of}
 use Rattle.open_inputs.specs.Indexed.{IndexedIf}
 use Rattle.open_inputs.specs.InputsLaws.{Admitted, inputs_refused, inputs_intact}
@@ -51,7 +50,7 @@ fits sheet hosts work l n table h a =
           );
     }
 
-pub load_asked : (sheet hosts table v : List ℕ) (work : ℕ) (l : Layout) (n : ℕ) {i : Inputs} → i ≡ Inputs.Intact l n → i ≡ inputs_of (checked_of (layout sheet)) (listed_of hosts) (length table) work → IndexedIf i hosts v →
+pub load_asked : (sheet hosts table v : List ℕ) (work : ℕ) (l : Layout) (n : ℕ) {i : Result (Layout × ℕ) LoadErrorKind} → i ≡ Ok (l, n) → i ≡ inputs_of (layout sheet) (listed_of hosts) (length table) work → IndexedIf i hosts v →
     all_of is_byte sheet ≡ true →
     Located (first_words sheet l.words) (module_in (first_words sheet l.words)) l × ((l.words ≤ 520192) × ((64 + 8 * l.words ≤ work) × (SortedHosts (first_words hosts n) v × Fits (hosts_in (first_words hosts n)) (module_in (first_words sheet l.words)) table)))
 load_asked sheet hosts table v work l n h e x b =
@@ -60,12 +59,12 @@ load_asked sheet hosts table v work l n h e x b =
 
 -- ── the three equations ──
 
-module _ (sheet hosts table work : List ℕ) {i : Inputs} (e : i ≡ inputs_of (checked_of (layout sheet)) (listed_of hosts) (length table) (length work)) where
-  module _ (k : LoadErrorKind) (h : i ≡ Inputs.Refused k) where
+module _ (sheet hosts table work : List ℕ) {i : Result (Layout × ℕ) LoadErrorKind} (e : i ≡ inputs_of (layout sheet) (listed_of hosts) (length table) (length work)) where
+  module _ (k : LoadErrorKind) (h : i ≡ Err k) where
     closed : opening sheet hosts (length table) (length work) ≡ refused k
     closed = inputs_refused sheet hosts (length table) (length work) e k h
 
-    pub refused_answer : {r : Loaded} → r ≡ Refused (in_module k) → r ≡ load sheet hosts (length table) (length work)
+    pub refused_answer : {r : Loaded} → r ≡ Err (in_module k) → r ≡ load sheet hosts (length table) (length work)
     unfolding load answer
     refused_answer q = q ∙ sym (ap (λ (x : load.Opened). answer x) closed)
 
@@ -77,7 +76,7 @@ module _ (sheet hosts table work : List ℕ) {i : Inputs} (e : i ≡ inputs_of (
     unfolding work_after work_then
     refused_work = sym (ap (λ (x : load.Opened). work_then x work) closed)
 
-  module _ (l : Layout) (n : ℕ) (h : i ≡ Inputs.Intact l n) where
+  module _ (l : Layout) (n : ℕ) (h : i ≡ Ok (l, n)) where
     opens : opening sheet hosts (length table) (length work) ≡ opened (module_in (first_words sheet l.words)) (hosts_in (first_words hosts n))
     opens = (inputs_intact sheet hosts (length table) (length work) e l n h).opens
 

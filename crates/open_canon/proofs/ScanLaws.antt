@@ -1,9 +1,10 @@
 -- The sorted order of all items: where a content first stands, its least number stands.
-use Rattle.std.specs.Prelude.{◌≡◌, refl, List, ℕ, ◌-◌, ◌<◌}
-use Rattle.std.proofs.Common.{sym, ◌∙◌, arith}
+use Rattle.std.specs.Prelude.{◌≡◌, refl, true, false, List, ℕ, ◌-◌, ◌<◌}
+use Rattle.std.proofs.Common.{sym, ap, ◌∙◌, arith}
 use Rattle.std.proofs.Math.Decide.{dec_lt}
-use Rattle.sorting.specs.declared.Ordering.{Ordering}
-use Rattle.sorting.specs.declared.Ordering.TheVariants.{Less, Equal, Greater}
+use Rattle.std.specs.Ordering.{is_eq}
+use Rattle.std.specs.declared.cmp.Ordering.{Ordering}
+use Rattle.std.specs.declared.cmp.Ordering.TheVariants.{Less, Equal, Greater}
 use Rattle.sorting.specs.Items.{item}
 use Rattle.sorting.specs.Order.{lex}
 use Rattle.sorting.specs.Lex.{before_lower, before_irr, before_between, lex_refl, lex_same}
@@ -46,11 +47,15 @@ module _ (ws S : List ℕ) (n : ℕ) (F : ℕ → ℕ) (o : Ordered ws S n F) wh
   pub head_new : (p u v : ℕ) → p < n → u ≡ F (p - 1) → v ≡ F p → (lex (item ws S u) (item ws S v) ≡ Equal → ⊥) → First ws S n (F p) v
   head_new p u v h eu ev d = rw ev (first_new p h λ z e. d (rw (eu, ev, e) (lex_refl (item ws S (F p)))))
 
-  pub head_same : (p u v h : ℕ) → u ≡ F (p - 1) → v ≡ F p → lex (item ws S u) (item ws S v) ≡ Equal → First ws S n (F (p - 1)) h → First ws S n (F p) h
+  pub head_same : (p u v h : ℕ) → u ≡ F (p - 1) → v ≡ F p → lex (item ws S u) (item ws S v) ≡ Equal → First ws S n (F (p - 1)) h →
+      First ws S n (F p) h
   head_same p u v h eu ev e f = first_same (F (p - 1)) (F p) h (rw (← eu, ← ev) (lex_same (item ws S u) (item ws S v) e)) f
 
-pub less_apart : (r x : Ordering) → r ≡ x → r ≡ Less → x ≡ Equal → ⊥
-less_apart r x a b e = let z : ◌≡◌ {A = ℕ} 0 1 = cc in omega arith
+-- what `is_eq` says of the order that was found
+pub equal_if : (r x : Ordering) → r ≡ x → true ≡ is_eq r → x ≡ Equal
+equal_if Less x a t = let z : ◌≡◌ {A = ℕ} 0 1 = cc in absurd (omega arith)
+equal_if Equal x a t = sym a
+equal_if Greater x a t = let z : ◌≡◌ {A = ℕ} 0 1 = cc in absurd (omega arith)
 
-pub more_apart : (r x : Ordering) → r ≡ x → r ≡ Greater → x ≡ Equal → ⊥
-more_apart r x a b e = let z : ◌≡◌ {A = ℕ} 0 1 = cc in omega arith
+pub apart_if : (r x : Ordering) → r ≡ x → false ≡ is_eq r → x ≡ Equal → ⊥
+apart_if r x a t e = let u : false ≡ true = t ∙ ap is_eq (a ∙ e) in let z : ◌≡◌ {A = ℕ} 0 1 = cc in omega arith

@@ -10,7 +10,7 @@ use Rattle.blocks.specs.ByteLaws.{is_word}
 use Rattle.sheet.specs.Module.{Module}
 use Rattle.open_layout.specs.LayoutLaws.{Located}
 use Rattle.open_layout.specs.declared.Layout.{Layout}
-use Rattle.open_index.specs.declared.Part.TheVariants.{Strings, Types, Consts, Imports, Funcs}
+use Rattle.open_index.specs.Index.{Strings, Types, Consts, Imports, Funcs}
 use Rattle.open_index.specs.Index.{edges_of, index, index_of}
 use Rattle.open_index.specs.SheetIndex.{strings_indexed, types_indexed}
 use Rattle.canon.specs.Canon.{canon_string, canon_type}
@@ -22,7 +22,8 @@ use Rattle.open_canon.specs.Contract.{Regions, Numbered}
 use Rattle.open_canon.specs.SheetNumbers.{types_numbered, strings_numbered}
 
 -- four regions one after the other meet what the call asks
-pub regions_of : (ws w : List ℕ) (n s a b c : ℕ) → Rising ws (part s (n + 1) w) n → n ≤ 4294967296 → s + (n + 1) ≤ a → a + n ≤ b → b + n ≤ c → c + n ≤ length w →
+pub regions_of : (ws w : List ℕ) (n s a b c : ℕ) → Rising ws (part s (n + 1) w) n → n ≤ 4294967296 → s + (n + 1) ≤ a → a + n ≤ b →
+    b + n ≤ c → c + n ≤ length w →
     Regions ws w n s a b c
 regions_of ws w n s a b c g h sa ab bc cw = record {
   good = g;
@@ -49,7 +50,8 @@ module _ (s₁ s₂ s₃ s₄ s₅ w : List ℕ) where
   lengths = omega (arith, length-append (s₁ ++ s₂) s₃, length-append (s₁ ++ s₂ ++ s₃) s₄, length-append (s₁ ++ s₂ ++ s₃ ++ s₄) s₅)
 
   -- of the first two
-  front : (at n : ℕ) → at + n ≤ length (s₁ ++ s₂) → part at n (paste w 0 (s₁ ++ s₂ ++ s₃ ++ s₄ ++ s₅) (length (s₁ ++ s₂ ++ s₃ ++ s₄ ++ s₅))) ≡ part at n (s₁ ++ s₂)
+  front : (at n : ℕ) → at + n ≤ length (s₁ ++ s₂) → part at n
+      (paste w 0 (s₁ ++ s₂ ++ s₃ ++ s₄ ++ s₅) (length (s₁ ++ s₂ ++ s₃ ++ s₄ ++ s₅))) ≡ part at n (s₁ ++ s₂)
   front at n h =
       part_paste at n w (s₁ ++ s₂ ++ s₃ ++ s₄ ++ s₅) (omega (arith, lengths))
       ∙ part_front at n (s₁ ++ s₂ ++ s₃ ++ s₄) s₅ (omega (arith, length-append (s₁ ++ s₂) s₃, length-append (s₁ ++ s₂ ++ s₃) s₄))
@@ -68,17 +70,21 @@ module _ (s₁ s₂ s₃ s₄ s₅ w : List ℕ) where
 module _ (ws : List ℕ) (m : Module) (l : Layout) (x : Located ws m l) where
   -- ── the edges in the index, written from word 0 on ──
 
-  pub strings_region : (w : List ℕ) → part (index_of ws l).strings (length m.strings + 1) (paste w 0 (index ws l) (length (index ws l))) ≡ edges_of Strings ws l.strings
+  pub strings_region : (w : List ℕ) → part (index_of ws l).strings (length m.strings + 1)
+      (paste w 0 (index ws l) (length (index ws l))) ≡ edges_of Strings ws l.strings
   unfolding index index_of
   strings_region w =
       rw (← (strings_indexed ws m l x).count)
-      (first_region (edges_of Strings ws l.strings) (edges_of Types ws l.types) (edges_of Consts ws l.consts) (edges_of Imports ws l.imports) (edges_of Funcs ws l.funcs) w)
+      (first_region (edges_of Strings ws l.strings) (edges_of Types ws l.types) (edges_of Consts ws l.consts)
+      (edges_of Imports ws l.imports) (edges_of Funcs ws l.funcs) w)
 
-  pub types_region : (w : List ℕ) → part (index_of ws l).types (length m.types + 1) (paste w 0 (index ws l) (length (index ws l))) ≡ edges_of Types ws l.types
+  pub types_region : (w : List ℕ) → part (index_of ws l).types (length m.types + 1)
+      (paste w 0 (index ws l) (length (index ws l))) ≡ edges_of Types ws l.types
   unfolding index index_of
   types_region w =
       rw (← (types_indexed ws m l x).count, zero-add (length (edges_of Strings ws l.strings)))
-      (second_region (edges_of Strings ws l.strings) (edges_of Types ws l.types) (edges_of Consts ws l.consts) (edges_of Imports ws l.imports) (edges_of Funcs ws l.funcs) w)
+      (second_region (edges_of Strings ws l.strings) (edges_of Types ws l.types) (edges_of Consts ws l.consts)
+      (edges_of Imports ws l.imports) (edges_of Funcs ws l.funcs) w)
 
   -- ── after the call ──
 
@@ -92,10 +98,12 @@ module _ (ws : List ℕ) (m : Module) (l : Layout) (x : Located ws m l) where
         (t : ℕ) → t < length m.types → get_or v (c + t) 0 ≡ canon_type m.types t
     type_number_lem e r t h = region_at (canon_type m.types) v c (length m.types) t (types_written e r) h
 
-    pub strings_written : all_of is_word ws ≡ true → part s (length m.strings + 1) w ≡ edges_of Strings ws l.strings → Numbered ws w v (length m.strings) s a b c false →
+    pub strings_written : all_of is_word ws ≡ true → part s (length m.strings + 1) w ≡ edges_of Strings ws l.strings →
+        Numbered ws w v (length m.strings) s a b c false →
         part c (length m.strings) v ≡ map (canon_string m.strings) (from 0 (length m.strings))
     strings_written k e r = r.numbers ∙ ap (λ es. canonical (own_by false) (items ws es (length m.strings))) e ∙ strings_numbered ws m l x k
 
-    pub string_number_lem : all_of is_word ws ≡ true → part s (length m.strings + 1) w ≡ edges_of Strings ws l.strings → Numbered ws w v (length m.strings) s a b c false →
+    pub string_number_lem : all_of is_word ws ≡ true → part s (length m.strings + 1) w ≡ edges_of Strings ws l.strings →
+        Numbered ws w v (length m.strings) s a b c false →
         (t : ℕ) → t < length m.strings → get_or v (c + t) 0 ≡ canon_string m.strings t
     string_number_lem k e r t h = region_at (canon_string m.strings) v c (length m.strings) t (strings_written k e r) h

@@ -23,7 +23,7 @@ use Rattle.sheet.specs.Coded.{coded_type}
 use Rattle.sheet.proofs.TypeCodes.{type_codes}
 use Rattle.open_layout.specs.LayoutLaws.{Located}
 use Rattle.open_layout.specs.declared.Layout.{Layout}
-use Rattle.open_index.specs.declared.Part.TheVariants.{Strings, Types}
+use Rattle.open_index.specs.Index.{Strings, Types}
 use Rattle.open_index.specs.Index.{edges_of, member_of}
 use Rattle.open_index.specs.IndexLaws.{Indexed, list_begins}
 use Rattle.open_index.specs.SheetIndex.{strings_indexed, types_indexed}
@@ -44,7 +44,8 @@ module _ {A : Type 0} (d : A) (ws : List ℕ) (f : Reader A) (enc : A → List �
   stands_here i h = rw (add-one i) (codes.found (get_or es i 0) (get_or xs i d) (get_or es (suc i) 0) (x.member i d h)).stands
 
   ends_here : (i : ℕ) → i < length xs → get_or es (i + 1) 0 ≤ length ws
-  ends_here i h = rw (add-one i) (read_inside ws f enc ok codes (get_or es i 0) (get_or xs i d) (get_or es (suc i) 0) (x.member i d h) (some (get_or xs i d)))
+  ends_here i h = rw (add-one i) (read_inside ws f enc ok codes (get_or es i 0) (get_or xs i d) (get_or es (suc i) 0) (x.member i d h)
+      (some (get_or xs i d)))
 
   -- item i is member i's words
   pub item_coded : (i : ℕ) → i < length xs → item ws es i ≡ enc (get_or xs i d)
@@ -90,7 +91,8 @@ module _ {A : Type 0} (d : A) (ws : List ℕ) (f : Reader A) (enc : A → List �
 
 module _ (ws : List ℕ) (m : Module) (l : Layout) (x : Located ws m l) where
   -- THE TYPES' NUMBERS OVER THE INDEX ARE RULE 1'S
-  pub types_numbered : canonical (own_by true) (items ws (edges_of Types ws l.types) (length m.types)) ≡ map (canon_type m.types) (from 0 (length m.types))
+  pub types_numbered : canonical (own_by true) (items ws (edges_of Types ws l.types) (length m.types)) ≡ map (canon_type m.types)
+      (from 0 (length m.types))
   types_numbered =
       numbers_coded coroutine ws type_def encode_type coded_type (type_codes ws) (λ d. unfold encode_type in omega arith)
       l.types m.types (edges_of Types ws l.types) (types_indexed ws m l x) (own_by true) (canon_type m.types)
@@ -104,13 +106,15 @@ module _ (ws : List ℕ) (m : Module) (l : Layout) (x : Located ws m l) where
 
   module _ (w : all_of is_word ws ≡ true) where
     -- THE STRINGS' NUMBERS OVER THE INDEX ARE RULE 1'S
-    pub strings_numbered : canonical (own_by false) (items ws (edges_of Strings ws l.strings) (length m.strings)) ≡ map (canon_string m.strings) (from 0 (length m.strings))
+    pub strings_numbered : canonical (own_by false) (items ws (edges_of Strings ws l.strings) (length m.strings)) ≡ map
+        (canon_string m.strings) (from 0 (length m.strings))
     strings_numbered =
         numbers_coded [] ws string encode_string well_formed (string_codes ws w) (λ s. unfold encode_string in omega arith)
         l.strings m.strings (edges_of Strings ws l.strings) (strings_indexed ws m l x) (own_by false) (canon_string m.strings)
         λ i h. unfold canon_string in
         first_agree (λ y. same (encode_string (get_or m.strings i [])) (encode_string y)) (same (get_or m.strings i [])) [] m.strings λ j k.
-        string_same (get_or m.strings i []) (get_or m.strings j []) (all_at well_formed m.strings i [] good h) (all_at well_formed m.strings j [] good k)
+        string_same (get_or m.strings i []) (get_or m.strings j []) (all_at well_formed m.strings i [] good h)
+        (all_at well_formed m.strings j [] good k)
       where
         good : all_of well_formed m.strings ≡ true
         good = ((list_codes ws string encode_string well_formed (string_codes ws w)).found l.strings m.strings l.types x.strings).fine

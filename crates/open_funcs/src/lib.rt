@@ -11,178 +11,99 @@ ghost use Rattle.open_funcs.specs.Halves.{frame_half, body_of, code_half};
 use blocks::word;
 use open_parts::imports::skip_params;
 use open_types::skip_values;
-use reader::{Step, skip_records};
-use sheet_reader::{Taken, next_word};
+use reader::{skip_list, skip_records};
+use sheet_reader::next_word;
 
 // Call shapes: each a list of kinds and names.
-pub fn skip_shapes(sheet: &[u8], n: usize, at: usize) -> Step
+pub fn skip_shapes(sheet: &[u8], n: usize, at: usize) -> Option<usize>
     ensures { result ≡ step_of (list_of (list_of (many 2 word)) (first_words sheet.now n) at) }
 {
-    if at < n {
-        let mut left = word(sheet, at);
-        let mut p = at + 1;
-        while 0 < left {
-            match skip_records(sheet, n, p, 2) {
-                Step::Next(q) => {
-                    p = q;
-                }
-                Step::Broken => {
-                    return Step::Broken;
-                }
-            }
-            left -= 1;
-        }
-        Step::Next(p)
-    } else {
-        Step::Broken
-    }
+    skip_list(sheet, n, at, |p| skip_records(sheet, n, p, 2))
 }
 
 // A jump table: targets, then the default.
-fn skip_switch(sheet: &[u8], n: usize, at: usize) -> Step
+#[tactic(auto, using(crate::proofs::FuncSteps::tables))]
+fn skip_switch(sheet: &[u8], n: usize, at: usize) -> Option<usize>
     ensures { result ≡ step_of (switch_of (first_words sheet.now n) at) }
 {
-    match skip_records(sheet, n, at, 1) {
-        Step::Next(p) => match next_word(sheet, n, p) {
-            Taken::Word(_, next) => Step::Next(next),
-            Taken::Broken => Step::Broken,
-        },
-        Step::Broken => Step::Broken,
-    }
+    let p = skip_records(sheet, n, at, 1)?;
+    let (_, next) = next_word(sheet, n, p)?;
+    Some(next)
 }
 
-pub fn skip_switches(sheet: &[u8], n: usize, at: usize) -> Step
+pub fn skip_switches(sheet: &[u8], n: usize, at: usize) -> Option<usize>
     ensures { result ≡ step_of (list_of switch_of (first_words sheet.now n) at) }
 {
-    if at < n {
-        let mut left = word(sheet, at);
-        let mut p = at + 1;
-        while 0 < left {
-            match skip_switch(sheet, n, p) {
-                Step::Next(q) => {
-                    p = q;
-                }
-                Step::Broken => {
-                    return Step::Broken;
-                }
-            }
-            left -= 1;
-        }
-        Step::Next(p)
-    } else {
-        Step::Broken
-    }
+    skip_list(sheet, n, at, |p| skip_switch(sheet, n, p))
 }
 
 // An instruction: two words, the operation code in the low byte.
-fn skip_inst(sheet: &[u8], n: usize, at: usize) -> Step
+#[tactic(auto, using(crate::proofs::FuncSteps::insts))]
+fn skip_inst(sheet: &[u8], n: usize, at: usize) -> Option<usize>
     ensures { result ≡ step_of (inst_of (first_words sheet.now n) at) }
 {
-    if at < n {
-        if at + 1 < n {
-            let low = word(sheet, at);
-            if low % 256 < 35 {
-                return Step::Next(at + 2);
-            }
-        }
+    if n <= at {
+        return None;
     }
-    Step::Broken
+    if n <= at + 1 {
+        return None;
+    }
+    match word(sheet, at) % 256 {
+        0..=34 => Some(at + 2),
+        _ => None,
+    }
 }
 
-fn skip_insts(sheet: &[u8], n: usize, at: usize) -> Step
+fn skip_insts(sheet: &[u8], n: usize, at: usize) -> Option<usize>
     ensures { result ≡ step_of (list_of inst_of (first_words sheet.now n) at) }
 {
-    if at < n {
-        let mut left = word(sheet, at);
-        let mut p = at + 1;
-        while 0 < left {
-            match skip_inst(sheet, n, p) {
-                Step::Next(q) => {
-                    p = q;
-                }
-                Step::Broken => {
-                    return Step::Broken;
-                }
-            }
-            left -= 1;
-        }
-        Step::Next(p)
-    } else {
-        Step::Broken
-    }
+    skip_list(sheet, n, at, |p| skip_inst(sheet, n, p))
 }
 
 // Signature, registers, parameter list, call shapes, captures.
-fn skip_frame_half(sheet: &[u8], n: usize, at: usize) -> Step
+#[tactic(auto, using(crate::proofs::FuncSteps::frames))]
+fn skip_frame_half(sheet: &[u8], n: usize, at: usize) -> Option<usize>
     ensures { result ≡ step_of (frame_half (first_words sheet.now n) at) }
 {
-    if at < n {
-        let Step::Next(params) = skip_values(sheet, n, at + 1) else {
-            return Step::Broken;
-        };
-        let Step::Next(shapes) = skip_params(sheet, n, params) else {
-            return Step::Broken;
-        };
-        let Step::Next(captures) = skip_shapes(sheet, n, shapes) else {
-            return Step::Broken;
-        };
-        skip_values(sheet, n, captures)
-    } else {
-        Step::Broken
+    if n <= at {
+        return None;
     }
+    let params = skip_values(sheet, n, at + 1)?;
+    let shapes = skip_params(sheet, n, params)?;
+    let captures = skip_shapes(sheet, n, shapes)?;
+    skip_values(sheet, n, captures)
 }
 
 // Jump tables, then code.
-fn skip_body(sheet: &[u8], n: usize, at: usize) -> Step
+#[tactic(auto, using(crate::proofs::FuncSteps::bodies))]
+fn skip_body(sheet: &[u8], n: usize, at: usize) -> Option<usize>
     ensures { result ≡ step_of (body_of (first_words sheet.now n) at) }
 {
-    match skip_switches(sheet, n, at) {
-        Step::Next(p) => skip_insts(sheet, n, p),
-        Step::Broken => Step::Broken,
-    }
+    let code = skip_switches(sheet, n, at)?;
+    skip_insts(sheet, n, code)
 }
 
 // Names, type refs, handlers, then jump tables and code.
-fn skip_code_half(sheet: &[u8], n: usize, at: usize) -> Step
+#[tactic(auto, using(crate::proofs::FuncSteps::codes))]
+fn skip_code_half(sheet: &[u8], n: usize, at: usize) -> Option<usize>
     ensures { result ≡ step_of (code_half (first_words sheet.now n) at) }
 {
-    let Step::Next(type_refs) = skip_records(sheet, n, at, 1) else {
-        return Step::Broken;
-    };
-    let Step::Next(handlers) = skip_records(sheet, n, type_refs, 1) else {
-        return Step::Broken;
-    };
-    let Step::Next(tables) = skip_records(sheet, n, handlers, 4) else {
-        return Step::Broken;
-    };
+    let type_refs = skip_records(sheet, n, at, 1)?;
+    let handlers = skip_records(sheet, n, type_refs, 1)?;
+    let tables = skip_records(sheet, n, handlers, 4)?;
     skip_body(sheet, n, tables)
 }
 
-pub fn skip_function(sheet: &[u8], n: usize, at: usize) -> Step
+#[tactic(auto, using(crate::proofs::FuncSteps::functions))]
+pub fn skip_function(sheet: &[u8], n: usize, at: usize) -> Option<usize>
     ensures { result ≡ step_of (function_of (first_words sheet.now n) at) }
 {
-    match skip_frame_half(sheet, n, at) {
-        Step::Next(p) => skip_code_half(sheet, n, p),
-        Step::Broken => Step::Broken,
-    }
+    let code = skip_frame_half(sheet, n, at)?;
+    skip_code_half(sheet, n, code)
 }
 
-pub fn skip_functions(sheet: &[u8], n: usize, at: usize) -> Step
+pub fn skip_functions(sheet: &[u8], n: usize, at: usize) -> Option<usize>
     ensures { result ≡ step_of (list_of function_of (first_words sheet.now n) at) }
 {
-    let Taken::Word(mut left, mut p) = next_word(sheet, n, at) else {
-        return Step::Broken;
-    };
-    while 0 < left {
-        match skip_function(sheet, n, p) {
-            Step::Next(q) => {
-                p = q;
-            }
-            Step::Broken => {
-                return Step::Broken;
-            }
-        }
-        left -= 1;
-    }
-    Step::Next(p)
+    skip_list(sheet, n, at, |p| skip_function(sheet, n, p))
 }

@@ -1,8 +1,7 @@
 -- For the code that writes the index: the edges one by one, the order where it is to lie.
-use Prim.Native.Nat.{ℕ, ◌+◌, ◌*◌, ◌≤◌, ◌<◌}
+use Prim.Native.Nat.{ℕ, ◌+◌, ◌-◌, ◌*◌, ◌≤◌, ◌<◌}
 use mathlib.Core.Path.{◌≡◌, refl, sym, ap, subst, ◌∙◌}
 use mathlib.Core.List.{List, []}
-use mathlib.Core.Logic.{◌⊎◌, inl, inr}
 use mathlib.Core.Bool.{true}
 use native.Mathlib.Omega.{arith}
 use native.Mathlib.Numerals.{add-one}
@@ -14,15 +13,17 @@ use Rattle.blocks.specs.Blocks.{words}
 use Rattle.blocks.specs.ByteLaws.{is_byte, is_word}
 use Rattle.blocks.specs.Frame.{first_words}
 use Rattle.blocks.proofs.FirstWords.{length_first_words, first_words_at, first_words_small}
-use Rattle.reader.specs.declared.Step.TheVariants.{Next}
+use Rattle.std.specs.List.{CopiedTo, SameBelow, SameFrom}
+use Rattle.std.specs.Prelude.{Some}
 use Rattle.reader.specs.Reader.{got, list_of}
 use Rattle.reader.proofs.ReadLaws.{listed_at, read_inside}
 use Rattle.reader.specs.Step.{step_of}
 use Rattle.reader.specs.Value.{Whole}
 use Rattle.reader.specs.ValueLaws.{whole_inv, got_whole, value_got, list_within}
 use Rattle.region.specs.Region.{Off, Frame, part, word_at}
-use Rattle.region.specs.RegionLaws.{frame_refl, fill_more, part_kept}
+use Rattle.region.specs.RegionLaws.{part_kept}
 use Rattle.sorting.specs.Contract.{Ready, Ordered, SortOut}
+use Rattle.sorting.proofs.CopySteps.{copied_frame, copied_same}
 use Rattle.host.specs.EntryWalk.{ends_at}
 use Rattle.host.specs.Host.{host_fn, nobody, encode_host}
 use Rattle.host.specs.HostLaws.{coded_host, host_codes}
@@ -30,7 +31,8 @@ use Rattle.host.specs.Listed.{hosts_in}
 use Rattle.open_hosts.specs.Sorted.{entry_count, Edged, Arranged}
 use Rattle.open_hosts.specs.EdgedLaws.{entry_of, entry_long, hosts_count, edged_ready, few_entries}
 
-pub count_read : (b : List ℕ) (n : ℕ) {x w : ℕ} → Whole (list_of host_fn (first_words b n) 2) → x ≡ w → w ≡ get_or (words b) 2 0 → x ≡ entry_count (first_words b n)
+pub count_read : (b : List ℕ) (n : ℕ) {x w : ℕ} → Whole (list_of host_fn (first_words b n) 2) → x ≡ w → w ≡ get_or (words b) 2 0 →
+    x ≡ entry_count (first_words b n)
 count_read b n h k e = k ∙ e ∙ sym (first_words_at b n 2 (list_within host_fn b n 2 h))
 
 -- ── the edges ──
@@ -39,11 +41,13 @@ count_read b n h k e = k ∙ e ∙ sym (first_words_at b n 2 (list_within host_f
 unfoldable pub edge_at : List ℕ → ℕ → ℕ
 edge_at ws i = 3 + length (concat_map encode_host (take i (hosts_in ws)))
 
-edge_entry : (ws : List ℕ) (i : ℕ) → Whole (list_of host_fn ws 2) → all_of is_word ws ≡ true → i < entry_count ws → host_fn ws (edge_at ws i) ≡ got (entry_of ws i) (edge_at ws (i + 1))
+edge_entry : (ws : List ℕ) (i : ℕ) → Whole (list_of host_fn ws 2) → all_of is_word ws ≡ true → i < entry_count ws →
+    host_fn ws (edge_at ws i) ≡ got (entry_of ws i) (edge_at ws (i + 1))
 unfolding edge_at
 edge_entry ws i w small h =
     whole_inv (list_of host_fn ws 2) w λ hs q e.
-    listed_at ws host_fn encode_host coded_host (host_codes ws small) 2 (hosts_in ws) q (e ∙ ap (λ l. got l q) (sym (value_got [] e))) i nobody (omega (arith, hosts_count ws w small))
+    listed_at ws host_fn encode_host coded_host (host_codes ws small) 2 (hosts_in ws) q
+    (e ∙ ap (λ l. got l q) (sym (value_got [] e))) i nobody (omega (arith, hosts_count ws w small))
     ∙ ap (λ k. got (entry_of ws i) (3 + length (concat_map encode_host (take k (hosts_in ws))))) (sym (add-one i))
 
 module _ (b : List ℕ) (n : ℕ) (w₀ : List ℕ) (count : ℕ) where
@@ -59,7 +63,8 @@ module _ (b : List ℕ) (n : ℕ) (w₀ : List ℕ) (count : ℕ) where
     pub inside : p ≤ n
     pub done : (j : ℕ) → j < i → get_or w j 0 ≡ edge_at (first_words b n) j
 
-  pub edging_start : Whole (list_of host_fn (first_words b n) 2) → all_of is_byte b ≡ true → count ≡ entry_count (first_words b n) → 3 * entry_count (first_words b n) + 1 ≤ length w₀ → Edging w₀ 0 3
+  pub edging_start : Whole (list_of host_fn (first_words b n) 2) → all_of is_byte b ≡ true → count ≡ entry_count (first_words b n) →
+      3 * entry_count (first_words b n) + 1 ≤ length w₀ → Edging w₀ 0 3
   unfolding edge_at
   edging_start h s k r = record {
     whole = h;
@@ -79,7 +84,8 @@ module _ (b : List ℕ) (n : ℕ) (w₀ : List ℕ) (count : ℕ) where
       where
         go : Dec (j < i) → get_or (set w i p) j 0 ≡ edge_at (first_words b n) j
         go (yes k) = get_or-set_other w i j p 0 (omega arith) ∙ t.done j k
-        go (no k) = let z : j ≡ i = omega arith in ap (λ m. get_or (set w i p) m 0) z ∙ get_or-set_same w i p 0 (omega (arith, t.room, t.turn)) ∙ t.here ∙ ap (edge_at (first_words b n)) (sym z)
+        go (no k) = let z : j ≡ i = omega arith in ap (λ m. get_or (set w i p) m 0) z
+            ∙ get_or-set_same w i p 0 (omega (arith, t.room, t.turn)) ∙ t.here ∙ ap (edge_at (first_words b n)) (sym z)
 
     module _ (h : i < count) where
       reads : host_fn (first_words b n) p ≡ got (entry_of (first_words b n) i) (edge_at (first_words b n) (i + 1))
@@ -88,7 +94,8 @@ module _ (b : List ℕ) (n : ℕ) (w₀ : List ℕ) (count : ℕ) where
       pub edging_whole : Whole (host_fn (first_words b n) p)
       edging_whole = got_whole reads
 
-      pub edging_next : (v : List ℕ) (q : ℕ) → v ≡ set w i p → Next (q + 1) ≡ step_of (host_fn (first_words b n) p) → Edging v (i + 1) (q + 1)
+      pub edging_next : (v : List ℕ) (q : ℕ) → v ≡ set w i p → Some (q + 1) ≡ step_of (host_fn (first_words b n) p) →
+          Edging v (i + 1) (q + 1)
       edging_next v q e k =
           let z : q + 1 ≡ edge_at (first_words b n) (i + 1) = ends_at reads k in
           let l : length v ≡ length w = ap length e ∙ length-set w i p in
@@ -100,7 +107,13 @@ module _ (b : List ℕ) (n : ℕ) (w₀ : List ℕ) (count : ℕ) where
             counts = t.counts;
             turn = omega arith;
             here = z;
-            inside = omega (arith, length_first_words b n, read_inside (first_words b n) host_fn encode_host coded_host (host_codes (first_words b n) t.small) p (entry_of (first_words b n) i) (edge_at (first_words b n) (i + 1)) reads (omega (arith, entry_long (entry_of (first_words b n) i))));
+            inside = omega (
+              arith,
+              length_first_words b n,
+              read_inside (first_words b n) host_fn encode_host coded_host
+                  (host_codes (first_words b n) t.small) p (entry_of (first_words b n) i) (edge_at (first_words b n) (i + 1)) reads
+                  (omega (arith, entry_long (entry_of (first_words b n) i))),
+            );
             done = write v e;
           }
 
@@ -113,29 +126,13 @@ module _ (b : List ℕ) (n : ℕ) (w₀ : List ℕ) (count : ℕ) where
           small = t.small;
           room = omega (arith, t.room, t.counts, ap length e ∙ length-set w count p);
           begins = write v o 0 (omega arith) ∙ start;
-          entry = λ j l. ap (host_fn (first_words b n)) (write v o j (omega (arith, t.counts))) ∙ edge_entry (first_words b n) j t.whole t.small l
+          entry = λ j l. ap (host_fn (first_words b n)) (write v o j (omega (arith, t.counts)))
+              ∙ edge_entry (first_words b n) j t.whole t.small l
               ∙ ap (got (entry_of (first_words b n) j)) (sym (write v o (j + 1) (omega (arith, t.counts))));
         }
       where
         start : edge_at (first_words b n) 0 ≡ 3
         start = unfold edge_at in refl
-
--- ── a copy ──
-
--- i words are copied
-pub record Copying (w₀ w : List ℕ) (from to n i : ℕ) : Type 0 where
-  pub turn : i ≤ n
-  pub frame : Frame (Off to (to + n)) w₀ w
-  pub done : (p : ℕ) → p < i → word_at w to p ≡ word_at w₀ from p
-
-pub copying_start : (w : List ℕ) (from to n : ℕ) → Copying w w from to n 0
-copying_start w from to n = record { turn = omega arith; frame = frame_refl (Off to (to + n)) w; done = λ p h. absurd (omega arith) }
-
-pub copying_next : (w₀ w v : List ℕ) (from to n i : ℕ) → Copying w₀ w from to n i → to + n ≤ from → from + n ≤ length w₀ → i < n → v ≡ set w (to + i) (get_or w (from + i) 0) → Copying w₀ v from to n (i + 1)
-copying_next w₀ w v from to n i c h k l e =
-    let x : get_or w (from + i) 0 ≡ word_at w₀ from i = c.frame.same (from + i) (λ a b. omega arith) in
-    let m = fill_more (word_at w₀ from) w₀ w v to n i (omega arith) l c.frame c.done (e ∙ ap (set w (to + i)) x) in
-    record { turn = omega arith; frame = m.0; done = m.1 }
 
 -- ── the order ──
 
@@ -145,7 +142,8 @@ edged_kept P ws w v d f p = record {
   small = d.small;
   room = omega (arith, d.room, f.len);
   begins = f.same 0 (p 0 (omega arith)) ∙ d.begins;
-  entry = λ i h. ap (host_fn ws) (f.same i (p i (omega arith))) ∙ d.entry i h ∙ ap (got (entry_of ws i)) (sym (f.same (i + 1) (p (i + 1) (omega arith))));
+  entry = λ i h. ap (host_fn ws) (f.same i (p i (omega arith))) ∙ d.entry i h
+      ∙ ap (got (entry_of ws i)) (sym (f.same (i + 1) (p (i + 1) (omega arith))));
 }
 
 ordered_as : (ws S T : List ℕ) (n : ℕ) (F G : ℕ → ℕ) → T ≡ S → ((p : ℕ) → p < n → G p ≡ F p) → Ordered ws S n F → Ordered ws T n G
@@ -155,44 +153,48 @@ ordered_as ws S T n F G e k o = rw e (record {
   below = λ p h. rw (k p h) (o.below p h);
 })
 
-module _ (ws w v : List ℕ) (count r : ℕ) (k : count ≡ entry_count ws) (d : Edged ws w) (o : SortOut ws w v count 0 (count + 1) (2 * count + 1) r) where
+module _ (ws w v : List ℕ) (count r : ℕ) (k : count ≡ entry_count ws) (d : Edged ws w)
+    (o : SortOut ws w v count 0 (count + 1) (2 * count + 1) r) where
   edges_off : (j : ℕ) → j < entry_count ws + 1 → Off (count + 1) (count + 1 + count) j × Off (2 * count + 1) (2 * count + 1 + count) j
   edges_off j h = (λ a b. omega arith, λ a b. omega arith)
 
   sorted_edges : Edged ws v
-  sorted_edges = edged_kept (λ j. Off (count + 1) (count + 1 + count) j × Off (2 * count + 1) (2 * count + 1 + count) j) ws w v d o.frame edges_off
+  sorted_edges = edged_kept (λ j. Off (count + 1) (count + 1 + count) j × Off (2 * count + 1) (2 * count + 1 + count) j) ws w v d o.frame
+      edges_off
 
   same_edges : part 0 (count + 1) v ≡ part 0 (count + 1) w
-  same_edges = part_kept (λ j. Off (count + 1) (count + 1 + count) j × Off (2 * count + 1) (2 * count + 1 + count) j) w v o.frame 0 (count + 1) (omega (arith, d.room)) (λ j a b. edges_off j (omega arith))
+  same_edges = part_kept (λ j. Off (count + 1) (count + 1 + count) j × Off (2 * count + 1) (2 * count + 1 + count) j) w v o.frame 0
+      (count + 1) (omega (arith, d.room)) (λ j a b. edges_off j (omega arith))
 
-  arrange : (u : List ℕ) → Edged ws u → part 0 (count + 1) u ≡ part 0 (count + 1) v → ((p : ℕ) → p < count → word_at u (count + 1) p ≡ word_at v r p) → Arranged ws u
+  arrange : (u : List ℕ) → Edged ws u → part 0 (count + 1) u ≡ part 0 (count + 1) v →
+      ((p : ℕ) → p < count → word_at u (count + 1) p ≡ word_at v r p) → Arranged ws u
   arrange u g e f = record {
     edges = g;
-    ordered = subst (λ c. Ordered ws (part 0 (c + 1) u) c (word_at u (c + 1))) k (ordered_as ws (part 0 (count + 1) w) (part 0 (count + 1) u) count (word_at v r) (word_at u (count + 1)) (e ∙ same_edges) f o.ordered);
+    ordered = subst (λ c. Ordered ws (part 0 (c + 1) u) c (word_at u (c + 1))) k
+        (ordered_as ws (part 0 (count + 1) w) (part 0 (count + 1) u) count (word_at v r) (word_at u (count + 1))
+        (e ∙ same_edges) f o.ordered);
   }
 
   -- the order lies where it is to lie
   pub order_lies : r ≡ count + 1 → Arranged ws v
   order_lies e = arrange v sorted_edges refl λ p h. ap (λ i. word_at v i p) (sym e)
 
-  -- it lies in the other region
-  pub order_elsewhere : (r ≡ count + 1 → ⊥) → r ≡ 2 * count + 1
-  order_elsewhere n = go o.which
-    where
-      go : (r ≡ count + 1) ⊎ (r ≡ 2 * count + 1) → r ≡ 2 * count + 1
-      go (inl e) = absurd (n e)
-      go (inr e) = e
-
   pub order_length : length v ≡ length w
   order_length = o.frame.len
 
-  pub order_copied : (u : List ℕ) → Frame (Off (count + 1) (count + 1 + count)) v u → ((p : ℕ) → p < count → word_at u (count + 1) p ≡ word_at v r p) → Arranged ws u
-  order_copied u f g =
+  -- and is copied back
+  pub order_copied : (u : List ℕ) → length u ≡ length v → CopiedTo v u r (count + 1) (r + count - r) → SameBelow v u (count + 1)
+      → SameFrom v u (count + 1 + (r + count - r)) → Arranged ws u
+  order_copied u l c below above =
+      let z : r + count - r ≡ count = omega arith in
+      let f = copied_frame v u r (count + 1) count (r + count - r) z l c below above in
       arrange u (edged_kept (Off (count + 1) (count + 1 + count)) ws v u sorted_edges f (λ j h a b. omega arith))
-      (part_kept (Off (count + 1) (count + 1 + count)) v u f 0 (count + 1) (omega (arith, d.room, o.frame.len)) (λ j a b x y. omega arith)) g
+      (part_kept (Off (count + 1) (count + 1 + count)) v u f 0 (count + 1) (omega (arith, d.room, o.frame.len)) (λ j a b x y. omega arith))
+      (copied_same v u r (count + 1) count (r + count - r) z l c below above)
 
 -- what the sort asks
-pub sort_asks : (b : List ℕ) (n : ℕ) (w : List ℕ) (count : ℕ) → count ≡ entry_count (first_words b n) → Edged (first_words b n) w → n ≤ 520192 → Ready (first_words b n) w count 0 (count + 1) (2 * count + 1) × (count ≤ 4294967296)
+pub sort_asks : (b : List ℕ) (n : ℕ) (w : List ℕ) (count : ℕ) → count ≡ entry_count (first_words b n) → Edged (first_words b n) w →
+    n ≤ 520192 → Ready (first_words b n) w count 0 (count + 1) (2 * count + 1) × (count ≤ 4294967296)
 sort_asks b n w count k d h = (
   subst (λ c. Ready (first_words b n) w c 0 (c + 1) (2 * c + 1)) (sym k) (edged_ready (first_words b n) w d),
   omega (arith, few_entries (first_words b n) d.whole d.small, length_first_words b n),

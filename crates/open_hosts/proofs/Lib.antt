@@ -1,3 +1,4 @@
 pub mod ListSteps
 pub mod IndexSteps
 pub mod EntrySteps
+pub mod PairWays

@@ -4,7 +4,7 @@ use Rattle.std.proofs.Common.{sym, ap, ◌∙◌, arith, lt-ltb, le-ltb}
 use Rattle.std.proofs.Math.Decide.{dec_lt}
 use Rattle.lists.specs.Lists.{any_of, first_at}
 use Rattle.lists.specs.FirstLaws.{first_most, first_passes, first_in, first_end}
-use Rattle.host.specs.declared.Found.TheVariants.{At, Missing}
+use Rattle.std.specs.Prelude.{None, Some}
 use Rattle.host.specs.Host.{HostFn, named, pairs_distinct, lookup, resolved, is_scheduler, nobody}
 use Rattle.host.specs.Listed.{found_at, found}
 
@@ -86,12 +86,12 @@ looked_nowhere hs m n f =
 
 -- ── what is found at a place ──
 
-pub place_found : (hs : List HostFn) (m n : List ℕ) {p : ℕ} {x : Bool} → p ≡ lookup hs m n → p < length hs → x ≡ eqb (get_or hs p nobody).kind 1 → At p x ≡ found hs m n
+pub place_found : (hs : List HostFn) (m n : List ℕ) {p : ℕ} {x : Bool} → p ≡ lookup hs m n → p < length hs → x ≡ eqb (get_or hs p nobody).kind 1 → Some (p, x) ≡ found hs m n
 unfolding found found_at resolved is_scheduler
 place_found hs m n {p} e h f =
-    ap (At p) f ∙ sym (ap (λ (b : Bool). cond b (At p (eqb (get_or hs p nobody).kind 1)) Missing) (lt-ltb p (length hs) h)) ∙ ap (found_at hs) e
+    ap (λ (b : Bool). Some (p, b)) f ∙ sym (ap (λ (b : Bool). cond b (Some (p, (eqb (get_or hs p nobody).kind 1))) None) (lt-ltb p (length hs) h)) ∙ ap (found_at hs) e
 
-pub place_missing : (hs : List HostFn) (m n : List ℕ) {p : ℕ} → p ≡ lookup hs m n → length hs ≤ p → Missing ≡ found hs m n
+pub place_missing : (hs : List HostFn) (m n : List ℕ) {p : ℕ} → p ≡ lookup hs m n → length hs ≤ p → None ≡ found hs m n
 unfolding found found_at resolved is_scheduler
 place_missing hs m n {p} e h =
-    sym (ap (λ (b : Bool). cond b (At p (eqb (get_or hs p nobody).kind 1)) Missing) (le-ltb p (length hs) h)) ∙ ap (found_at hs) e
+    sym (ap (λ (b : Bool). cond b (Some (p, (eqb (get_or hs p nobody).kind 1))) None) (le-ltb p (length hs) h)) ∙ ap (found_at hs) e

@@ -12,7 +12,7 @@ use Rattle.blocks.specs.ByteLaws.{is_byte}
 use Rattle.blocks.specs.Frame.{first_words}
 use Rattle.blocks.proofs.FirstWords.{first_words_small}
 use Rattle.utf8.specs.Utf8.{well_formed}
-use Rattle.reader.specs.declared.Step.TheVariants.{Next}
+use Rattle.std.specs.Prelude.{Some}
 use Rattle.reader.specs.Reader.{got, pure, word, many}
 use Rattle.reader.specs.ReaderLaws.{then_inv, chosen}
 use Rattle.reader.proofs.ReadLaws.{read_inside, stands_slice}
@@ -21,7 +21,7 @@ use Rattle.reader.specs.Text.{words_for, good_text, string, encode_string}
 use Rattle.reader.specs.TextLaws.{string_codes}
 use Rattle.reader.specs.Value.{Whole}
 use Rattle.reader.specs.ValueLaws.{whole_inv, value_got}
-use Rattle.sorting.specs.declared.Ordering.{Ordering}
+use Rattle.std.specs.declared.cmp.Ordering.{Ordering}
 use Rattle.sorting.specs.Order.{lex}
 use Rattle.host.specs.EntryWalk.{ends_at}
 use Rattle.host.specs.Listed.{text_at}
@@ -46,7 +46,7 @@ text_fine ws p w = whole_inv (string ws p) w λ s q e. ap well_formed (value_got
         let x : take k bs ≡ s = cc in
         ap well_formed (sym x) ∙ good k bs t
 
-module _ (b : List ℕ) (n p : ℕ) (w : Whole (string (first_words b n) p)) {e : ℕ} (q : Next e ≡ step_of (string (first_words b n) p)) (small : all_of is_byte b ≡ true) where
+module _ (b : List ℕ) (n p : ℕ) (w : Whole (string (first_words b n) p)) {e : ℕ} (q : Some e ≡ step_of (string (first_words b n) p)) (small : all_of is_byte b ≡ true) where
   text_range : {C : Type 0} → (p ≤ e → e ≤ length (first_words b n) → slice p e (first_words b n) ≡ encode_string (text_at (first_words b n) p) → C) → C
   text_range f =
       whole_inv (string (first_words b n) p) w λ s r g.
@@ -61,7 +61,7 @@ module _ (b : List ℕ) (n p : ℕ) (w : Whole (string (first_words b n) p)) {e 
       long s = unfold encode_string in omega arith
 
 module _ (a : List ℕ) (n p : ℕ) (b : List ℕ) (m q : ℕ) {pe qe : ℕ} (w : Whole (string (first_words a n) p)) (u : Whole (string (first_words b m) q))
-    (e : Next pe ≡ step_of (string (first_words a n) p)) (f : Next qe ≡ step_of (string (first_words b m) q)) (sa : all_of is_byte a ≡ true) (sb : all_of is_byte b ≡ true) where
+    (e : Some pe ≡ step_of (string (first_words a n) p)) (f : Some qe ≡ step_of (string (first_words b m) q)) (sa : all_of is_byte a ≡ true) (sb : all_of is_byte b ≡ true) where
   pub texts_room : (p ≤ pe) × (pe ≤ length (first_words a n)) × (q ≤ qe) × (qe ≤ length (first_words b m))
   texts_room = text_range a n p w e sa λ x y z. text_range b m q u f sb λ x₂ y₂ z₂. (x, y, x₂, y₂)
 

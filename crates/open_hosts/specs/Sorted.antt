@@ -8,8 +8,8 @@ use Rattle.reader.specs.Reader.{got, list_of}
 use Rattle.reader.specs.Value.{Whole}
 use Rattle.region.specs.Region.{part, word_at}
 use Rattle.sorting.specs.Contract.{Ordered}
-use Rattle.host.specs.declared.Listed.{Listed}
-use Rattle.host.specs.declared.Listed.TheVariants.{Intact}
+use Rattle.std.specs.Prelude.{Option}
+use Rattle.std.specs.Prelude.{Some}
 use Rattle.host.specs.Host.{host_fn, pairs_distinct, nobody}
 use Rattle.host.specs.Listed.{hosts_in}
 
@@ -40,5 +40,5 @@ pub record SortedHosts (ws v : List ℕ) : Type 0 where
   pub distinct : pairs_distinct (hosts_in ws) ≡ true
 
 -- where the list is intact, v is its index
-unfoldable pub SortedIf : Listed → List ℕ → List ℕ → Type 0
-SortedIf r b v = (n : ℕ) → r ≡ Intact n → SortedHosts (first_words b n) v
+unfoldable pub SortedIf : Option ℕ → List ℕ → List ℕ → Type 0
+SortedIf r b v = (n : ℕ) → r ≡ Some n → SortedHosts (first_words b n) v

@@ -6,14 +6,14 @@ use Rattle.blocks.specs.Frame.{first_words}
 use Rattle.reader.specs.Reader.{list_of}
 use Rattle.reader.specs.Value.{Whole}
 use Rattle.host.specs.Host.{host_fn}
-use Rattle.host.specs.declared.Listed.{Listed}
-use Rattle.host.specs.declared.Listed.TheVariants.{Intact}
+use Rattle.std.specs.Prelude.{Option}
+use Rattle.std.specs.Prelude.{Some}
 use Rattle.open_hosts.specs.Sorted.{Roomy, SortedHosts, SortedIf}
 
 pub list_whole : {ws v : List ℕ} → SortedHosts ws v → Whole (list_of host_fn ws 2)
 list_whole s = s.arranged.edges.whole
 
-pub sorted_now : {r : Listed} (b v : List ℕ) (n : ℕ) → r ≡ Intact n → SortedIf r b v → SortedHosts (first_words b n) v
+pub sorted_now : {r : Option ℕ} (b v : List ℕ) (n : ℕ) → r ≡ Some n → SortedIf r b v → SortedHosts (first_words b n) v
 unfolding SortedIf
 sorted_now b v n k s = s n k
 

@@ -11,8 +11,8 @@ ghost use Rattle.open_hosts.specs.RangeOrder.{text_order};
 
 use host::strings::end_of;
 use region::at;
-use sorting::Ordering;
 use sorting::contents::compare_words;
+use std::cmp::Ordering;
 
 // The order of two strings: by length, then by words.
 fn compare_strings(one: &[u8], n: usize, p: usize, other: &[u8], m: usize, q: usize) -> Ordering
@@ -25,27 +25,36 @@ fn compare_strings(one: &[u8], n: usize, p: usize, other: &[u8], m: usize, q: us
     compare_words(one, n, p, p_end, other, m, q, q_end)
 }
 
-// How the module and the name that stand in the sheet, of `words` words, compare with those of an entry.
-pub fn compare_entry(
-    hosts: &[u8],
-    n: usize,
-    index: &[u32],
-    entry: usize,
-    sheet: &[u8],
-    words: usize,
-    module: usize,
-    name: usize,
-) -> Ordering
-    requires edged { Edged (first_words hosts.now n) index.now }
-    requires bound { entry < entry_count (first_words hosts.now n) }
-    requires whole { Whole (string (first_words sheet.now words) «module») }
-    requires whole_2 { Whole (string (first_words sheet.now words) name) }
-    ensures { result ≡ pair_order (text_at (first_words sheet.now words) «module») (text_at (first_words sheet.now words) name) (entry_of (first_words hosts.now n) entry) }
-{
-    let p = at(index, entry);
-    match compare_strings(sheet, words, module, hosts, n, p) {
-        Ordering::Less => Ordering::Less,
-        Ordering::Equal => compare_strings(sheet, words, name, hosts, n, end_of(hosts, n, p)),
-        Ordering::Greater => Ordering::Greater,
+// The list, how many of its words count, and its index.
+#[derive(Clone, Copy)]
+pub struct Hosts<'a> {
+    pub bytes: &'a [u8],
+    pub n: usize,
+    pub index: &'a [u32],
+}
+
+impl<'a> Hosts<'a> {
+    // How the module and the name that stand in the sheet, of `words` words, compare with those of an entry.
+    pub fn compare_entry(
+        self,
+        entry: usize,
+        sheet: &[u8],
+        words: usize,
+        module: usize,
+        name: usize,
+    ) -> Ordering
+        requires edged { Edged (first_words self.bytes.now self.n) self.index.now }
+        requires bound { entry < entry_count (first_words self.bytes.now self.n) }
+        requires whole { Whole (string (first_words sheet.now words) «module») }
+        requires whole_2 { Whole (string (first_words sheet.now words) name) }
+        ensures { result ≡ pair_order (text_at (first_words sheet.now words) «module») (text_at (first_words sheet.now words) name)
+            (entry_of (first_words self.entry.bytes.now self.entry.n) entry) }
+    {
+        let p = at(self.index, entry);
+        let by_name = || {
+            let q = end_of(self.bytes, self.n, p);
+            compare_strings(sheet, words, name, self.bytes, self.n, q)
+        };
+        compare_strings(sheet, words, module, self.bytes, self.n, p).then_with(by_name)
     }
 }

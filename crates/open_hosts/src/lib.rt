@@ -16,48 +16,44 @@ mod order;
 mod pairs;
 mod search;
 
+use crate::compare::Hosts;
 use crate::order::{entry_count, sort_entries};
-use crate::pairs::is_distinct;
-use crate::search::{find_place, is_scheduler};
-use blocks::Frame;
 use host::entries::skip_entries;
-use host::{Found, Listed};
-use reader::Step;
 
-// The entries fill the n words, and no pair stands twice: of more than 130,047 entries two are the pair of empty strings.
-fn check_entries(hosts: &[u8], n: usize, index: &mut [u32]) -> Listed
+// Of more entries two are the pair of empty strings.
+const MOST_ENTRIES: usize = 130047;
+
+// The entries fill the n words, and no pair stands twice.
+fn check_entries(hosts: &[u8], n: usize, index: &mut [u32]) -> Option<usize>
     requires n_bound { n ≤ 520192 }
     requires roomy { Roomy hosts.now (length index.old) }
     ensures value { result ≡ listed_in n (first_words hosts.now n) }
     ensures sorted_if { SortedIf result hosts.now index.new }
 {
-    let Step::Next(end) = skip_entries(hosts, n, 2) else {
-        return Listed::Broken;
-    };
+    let end = skip_entries(hosts, n, 2)?;
     if end != n {
-        return Listed::Broken;
+        return None;
     }
-    if 130047 < entry_count(hosts, n) {
-        return Listed::Broken;
+    if MOST_ENTRIES < entry_count(hosts, n) {
+        return None;
     }
     sort_entries(hosts, n, index);
-    if is_distinct(hosts, n, index) {
-        Listed::Intact(n)
-    } else {
-        Listed::Broken
-    }
+    let list = Hosts {
+        bytes: hosts,
+        n,
+        index,
+    };
+    list.is_distinct().then_some(n)
 }
 
 // Kind 23 where it is broken, else the index of the list.
-pub fn check_hosts(hosts: &[u8], index: &mut [u32]) -> Listed
+pub fn check_hosts(hosts: &[u8], index: &mut [u32]) -> Option<usize>
     requires { Roomy hosts.now (length index.old) }
     ensures value { result ≡ listed_of hosts.now }
     ensures sorted_if { SortedIf result hosts.now index.new }
 {
-    match blocks::read_frame(hosts, 1) {
-        Frame::Words(n) => check_entries(hosts, n, index),
-        Frame::Broken => Listed::Broken,
-    }
+    let n = blocks::read_frame(hosts, 1)?;
+    check_entries(hosts, n, index)
 }
 
 // The function with the module and name that stand in the sheet, of `words` words; the host list has n.
@@ -69,18 +65,22 @@ pub fn lookup(
     words: usize,
     module: usize,
     name: usize,
-) -> Found
+) -> Option<(usize, bool)>
     requires whole { Whole (list_of host_fn (first_words hosts.now n) 2) }
     requires sorted_hosts { SortedHosts (first_words hosts.now n) index.now }
     requires whole_2 { Whole (string (first_words sheet.now words) «module») }
     requires whole_3 { Whole (string (first_words sheet.now words) name) }
-    ensures { result ≡ found (hosts_in (first_words hosts.now n)) (text_at (first_words sheet.now words) «module») (text_at (first_words sheet.now words) name) }
+    ensures { result ≡ found (hosts_in (first_words hosts.now n)) (text_at (first_words sheet.now words) «module»)
+        (text_at (first_words sheet.now words) name) }
 {
-    let place = find_place(hosts, n, index, sheet, words, module, name);
-    if place < entry_count(hosts, n) {
-        let scheduler = is_scheduler(hosts, n, index, place);
-        Found::At(place, scheduler)
-    } else {
-        Found::Missing
+    let list = Hosts {
+        bytes: hosts,
+        n,
+        index,
+    };
+    let place = list.find_place(sheet, words, module, name);
+    if entry_count(hosts, n) <= place {
+        return None;
     }
+    Some((place, list.is_scheduler(place)))
 }

@@ -1,16 +1,15 @@
 // The index of an intact list: where each entry stands, then the entries' numbers by content.
-ghost use Rattle.std.specs.Prelude.{◌≡◌, ℕ, ◌+◌, ◌*◌, ◌≤◌, ◌<◌, length};
+ghost use Rattle.std.specs.Prelude.{◌≡◌, ◌+◌, ◌*◌, ◌≤◌, length};
 ghost use Rattle.blocks.specs.Frame.{first_words};
 ghost use Rattle.reader.specs.Reader.{list_of};
 ghost use Rattle.reader.specs.Value.{Whole};
-ghost use Rattle.region.specs.Region.{Off, Frame, word_at};
 ghost use Rattle.host.specs.Host.{host_fn};
 ghost use Rattle.open_hosts.specs.Sorted.{entry_count, Edged, Arranged};
 
 use blocks::word;
 use host::entries::kind_of;
-use region::{copy_word, put, widen};
-use sorting::merge_sort::sort;
+use region::{put, widen};
+use sorting::contents::Items;
 
 // How many entries the list has.
 pub fn entry_count(hosts: &[u8], n: usize) -> usize
@@ -28,27 +27,12 @@ fn index_entries(hosts: &[u8], n: usize, index: &mut [u32])
     ensures { Edged (first_words hosts.now n) index.new }
 {
     let count = entry_count(hosts, n);
-    let mut i = 0;
     let mut p = 3;
-    while i < count {
+    for i in 0..count {
         put(index, i, p);
         p = kind_of(hosts, n, p) + 1;
-        i += 1;
     }
     put(index, count, p);
-}
-
-// Copies n words to a region before theirs.
-fn copy_back(index: &mut [u32], from: usize, to: usize, n: usize)
-    requires { (to + n ≤ from) × (from + n ≤ length index.old) }
-    ensures frame { Frame (Off to (to + n)) index.old index.new }
-    ensures by_index { (p : ℕ) → p < n → word_at index.new to p ≡ word_at index.old from p }
-{
-    let mut i = 0;
-    while i < n {
-        copy_word(index, from + i, to + i);
-        i += 1;
-    }
 }
 
 // Writes the index of an intact list of n words.
@@ -60,9 +44,15 @@ pub fn sort_entries(hosts: &[u8], n: usize, index: &mut [u32])
 {
     index_entries(hosts, n, index);
     let count = entry_count(hosts, n);
-    let from = sort(hosts, n, index, count, 0, count + 1, 2 * count + 1);
+    let items = Items {
+        bytes: hosts,
+        words: n,
+        n: count,
+        edges_at: 0,
+    };
+    let from = items.sort(index, count + 1, 2 * count + 1);
     if from == count + 1 {
         return;
     }
-    copy_back(index, from, count + 1, count);
+    index.copy_within(from..from + count, count + 1);
 }

@@ -8,54 +8,47 @@ ghost use Rattle.host.specs.Listed.{hosts_in, text_at};
 ghost use Rattle.open_hosts.specs.Sorted.{entry_count, Edged, SortedHosts};
 ghost use Rattle.open_hosts.specs.EdgedLaws.{entry_of};
 
-use crate::compare::compare_entry;
+use crate::compare::Hosts;
 use crate::order::entry_count;
 use blocks::word;
 use host::entries::kind_of;
 use region::at;
-use sorting::Ordering;
+use std::cmp::Ordering;
 
-// The number of the entry with the module and the name that stand in the sheet; where there is none, the number of entries.
-pub fn find_place(
-    hosts: &[u8],
-    n: usize,
-    index: &[u32],
-    sheet: &[u8],
-    words: usize,
-    module: usize,
-    name: usize,
-) -> usize
-    requires sorted_hosts { SortedHosts (first_words hosts.now n) index.now }
-    requires whole { Whole (string (first_words sheet.now words) «module») }
-    requires whole_2 { Whole (string (first_words sheet.now words) name) }
-    ensures { result ≡ lookup (hosts_in (first_words hosts.now n)) (text_at (first_words sheet.now words) «module») (text_at (first_words sheet.now words) name) }
-{
-    let count = entry_count(hosts, n);
-    let mut lo = 0;
-    let mut hi = count;
-    while lo < hi {
-        let mid = lo + (hi - lo) / 2;
-        let entry = at(index, count + 1 + mid);
-        match compare_entry(hosts, n, index, entry, sheet, words, module, name) {
-            Ordering::Less => {
-                hi = mid;
-            }
-            Ordering::Equal => {
-                return entry;
-            }
-            Ordering::Greater => {
-                lo = mid + 1;
+impl<'a> Hosts<'a> {
+    // The number of the entry with the module and the name that stand in the sheet; where there is none, the number of entries.
+    // By hand: the library's search asks that its closure take any word, and `compare_entry` takes an entry's number.
+    pub fn find_place(self, sheet: &[u8], words: usize, module: usize, name: usize) -> usize
+        requires sorted_hosts { SortedHosts (first_words self.bytes.now self.n) self.index.now }
+        requires whole { Whole (string (first_words sheet.now words) «module») }
+        requires whole_2 { Whole (string (first_words sheet.now words) name) }
+        ensures { result ≡ lookup (hosts_in (first_words self.entry.bytes.now self.entry.n))
+            (text_at (first_words sheet.now words) «module») (text_at (first_words sheet.now words) name) }
+    {
+        let count = entry_count(self.bytes, self.n);
+        let mut lo = 0;
+        let mut hi = count;
+        while lo < hi {
+            let mid = lo + (hi - lo) / 2;
+            let entry = at(self.index, count + 1 + mid);
+            match self.compare_entry(entry, sheet, words, module, name) {
+                Ordering::Less => hi = mid,
+                Ordering::Equal => return entry,
+                Ordering::Greater => lo = mid + 1,
             }
         }
+        count
     }
-    count
-}
 
-// Is the entry's kind that of a scheduler?
-pub fn is_scheduler(hosts: &[u8], n: usize, index: &[u32], entry: usize) -> bool
-    requires edged { Edged (first_words hosts.now n) index.now }
-    requires bound { entry < entry_count (first_words hosts.now n) }
-    ensures { result ≡ eqb (entry_of (first_words hosts.now n) entry).kind 1 }
-{
-    word(hosts, kind_of(hosts, n, at(index, entry))) == 1
+    // Is the entry's kind that of a scheduler?
+    pub fn is_scheduler(self, entry: usize) -> bool
+        requires edged { Edged (first_words self.bytes.now self.n) self.index.now }
+        requires bound { entry < entry_count (first_words self.bytes.now self.n) }
+        ensures { result ≡ eqb (entry_of (first_words self.entry.bytes.now self.entry.n) entry).kind 1 }
+    {
+        word(
+            self.bytes,
+            kind_of(self.bytes, self.n, at(self.index, entry)),
+        ) == 1
+    }
 }

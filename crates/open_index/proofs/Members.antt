@@ -8,7 +8,7 @@ use native.Mathlib.Decide.{dec_lt}
 use lib.ListN.{length, get_or, drop}
 use lib.Seq.{drop-drop, get_or-drop}
 use Rattle.blocks.specs.Frame.{first_words}
-use Rattle.reader.specs.declared.Step.{Step}
+use Rattle.std.specs.Prelude.{Option}
 use Rattle.reader.specs.Reader.{broken, got, Reader}
 use Rattle.lists.specs.Lists.{all_of}
 use Rattle.blocks.specs.ByteLaws.{is_word}
@@ -25,37 +25,35 @@ use Rattle.sheet.specs.Coded.{coded_type, coded_func}
 use Rattle.sheet.proofs.TypeCodes.{type_codes, const_codes}
 use Rattle.sheet.proofs.FuncCodes.{import_codes, function_codes}
 use Rattle.open_layout.specs.Layout.{pos_of}
-use Rattle.open_index.specs.declared.Part.{Part}
-use Rattle.open_index.specs.declared.Part.TheVariants.{Strings, Types, Consts, Imports, Funcs}
-use Rattle.open_index.specs.Index.{member_of}
+use Rattle.open_index.specs.Index.{Part, Strings, Types, Consts, Imports, Funcs, member_of}
 use Rattle.open_index.specs.SheetIndex.{const_some}
 
 -- ── a member ──
 
-position : {A : Type 0} (f : Reader A) (ws : List ℕ) (at : ℕ) {x : Step} → x ≡ step_of (f ws at) → x ≡ step_of (pos_of f ws at)
+position : {A : Type 0} (f : Reader A) (ws : List ℕ) (at : ℕ) {x : Option ℕ} → x ≡ step_of (f ws at) → x ≡ step_of (pos_of f ws at)
 unfolding pos_of
 position f ws at e = e ∙ sym (make (f ws at) (λ a. at))
 
-module _ (ws : List ℕ) (at : ℕ) {part : Part} {x : Step} where
-  pub member_string : part ≡ Strings → x ≡ step_of (string ws at) → x ≡ step_of (member_of part ws at)
+module _ (ws : List ℕ) (at : ℕ) {x : Option ℕ} where
+  pub member_string : x ≡ step_of (string ws at) → x ≡ step_of (member_of Strings ws at)
   unfolding member_of
-  member_string e k = position string ws at k ∙ sym (ap (λ (p : Part). step_of (member_of p ws at)) e)
+  member_string = position string ws at
 
-  pub member_type : part ≡ Types → x ≡ step_of (type_def ws at) → x ≡ step_of (member_of part ws at)
+  pub member_type : x ≡ step_of (type_def ws at) → x ≡ step_of (member_of Types ws at)
   unfolding member_of
-  member_type e k = position type_def ws at k ∙ sym (ap (λ (p : Part). step_of (member_of p ws at)) e)
+  member_type = position type_def ws at
 
-  pub member_const : part ≡ Consts → x ≡ step_of (const_of ws at) → x ≡ step_of (member_of part ws at)
+  pub member_const : x ≡ step_of (const_of ws at) → x ≡ step_of (member_of Consts ws at)
   unfolding member_of
-  member_const e k = position const_of ws at k ∙ sym (ap (λ (p : Part). step_of (member_of p ws at)) e)
+  member_const = position const_of ws at
 
-  pub member_import : part ≡ Imports → x ≡ step_of (import_of ws at) → x ≡ step_of (member_of part ws at)
+  pub member_import : x ≡ step_of (import_of ws at) → x ≡ step_of (member_of Imports ws at)
   unfolding member_of
-  member_import e k = position import_of ws at k ∙ sym (ap (λ (p : Part). step_of (member_of p ws at)) e)
+  member_import = position import_of ws at
 
-  pub member_func : part ≡ Funcs → x ≡ step_of (function_of ws at) → x ≡ step_of (member_of part ws at)
+  pub member_func : x ≡ step_of (function_of ws at) → x ≡ step_of (member_of Funcs ws at)
   unfolding member_of
-  member_func e k = position function_of ws at k ∙ sym (ap (λ (p : Part). step_of (member_of p ws at)) e)
+  member_func = position function_of ws at
 
 -- a member's value is where it stands
 pos_of_is : {A : Type 0} (f : Reader A) (ws : List ℕ) (at s q : ℕ) → pos_of f ws at ≡ got s q → s ≡ at

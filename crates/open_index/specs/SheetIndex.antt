@@ -3,17 +3,15 @@ use Rattle.std.specs.Prelude.{ℕ, ◌+◌, ◌≤◌, refl, true}
 use Rattle.std.proofs.Math.Path.{◌≡◌, sym, ap}
 use Rattle.std.proofs.Common.{subst, ◌∙◌}
 use mathlib.Core.List.{List, ◌++◌}
-use Rattle.std.proofs.Math.Option.{Option, none, some}
+use Rattle.std.specs.Prelude.{Option, Some}
 use native.Mathlib.Omega.{arith}
 use Rattle.std.proofs.Math.ListN.{length, length-append}
 use Rattle.lists.specs.Lists.{all_of}
 use Rattle.blocks.specs.Blocks.{framed}
 use Rattle.blocks.specs.ByteLaws.{is_word}
 use Rattle.blocks.specs.Frame.{first_words, frame_of}
-use Rattle.blocks.specs.declared.Frame.TheVariants.{Words}
 use Rattle.blocks.proofs.FirstWords.{first_words_framed, frame_few}
 use Rattle.utf8.specs.Utf8.{well_formed}
-use Rattle.reader.specs.declared.Step.TheVariants.{Next}
 use Rattle.reader.specs.Reader.{got}
 use Rattle.reader.specs.Text.{string, encode_string}
 use Rattle.reader.specs.TextLaws.{string_codes}
@@ -30,13 +28,11 @@ use Rattle.sheet.specs.Coded.{coded_type, coded_global, coded_func, coded_hook, 
 use Rattle.sheet.proofs.TypeCodes.{type_codes, const_codes}
 use Rattle.sheet.proofs.FuncCodes.{import_codes, global_codes, function_codes}
 use Rattle.sheet.proofs.ModuleCodes.{hook_codes, export_codes}
-use Rattle.open_layout.specs.Layout.{layout_of, layout, checked_of}
+use Rattle.open_layout.specs.Layout.{layout_of, layout}
 use Rattle.open_layout.specs.Opened.{module_in}
 use Rattle.open_layout.specs.LayoutLaws.{layout_module, Located, located}
 use Rattle.open_layout.specs.declared.Layout.{Layout}
-use Rattle.open_layout.specs.declared.Checked.{Checked}
-use Rattle.open_index.specs.declared.Part.TheVariants.{Strings, Types, Consts, Imports, Funcs}
-use Rattle.open_index.specs.Index.{member_of, edges_of, Indexable, index}
+use Rattle.open_index.specs.Index.{Strings, Types, Consts, Imports, Funcs, member_of, edges_of, Indexable, index}
 use Rattle.open_index.specs.IndexLaws.{Indexed, indexed, list_fit}
 
 pub const_some : (k : Const) → 1 ≤ length (encode_const k)
@@ -48,15 +44,15 @@ const_some (Const.map entries) = omega arith
 
 -- a sheet with a layout: the module that its words hold, each list where the layout says, and how long it can be
 pub record Intact (bytes : List ℕ) (l : Layout) : Type 0 where
-  pub holds : decode bytes ≡ some (module_in (first_words bytes l.words))
+  pub holds : decode bytes ≡ Some (module_in (first_words bytes l.words))
   pub located : Located (first_words bytes l.words) (module_in (first_words bytes l.words)) l
   pub few : l.words ≤ 520192
 
-pub intact : (bytes : List ℕ) (l : Layout) → layout bytes ≡ some l → Intact bytes l
+pub intact : (bytes : List ℕ) (l : Layout) → layout bytes ≡ Some l → Intact bytes l
 unfolding layout decode
 intact bytes l e =
     content_inv layout_of (framed newest_edition bytes) l e λ ws e₁ e₂.
-    arrived (module_of ws 2) {r = Next (length ws)} refl (sym (ended ws e₂) ∙ layout_module ws 2) λ m g.
+    arrived (module_of ws 2) {r = Some (length ws)} refl (sym (ended ws e₂) ∙ layout_module ws 2) λ m g.
     let x = located ws m l g e₂ in
     let w : ws ≡ first_words bytes l.words = sym (first_words_framed newest_edition bytes ws e₁) ∙ ap (first_words bytes) x.words in
     let k : m ≡ module_in (first_words bytes l.words) = module_is ws m g ∙ ap module_in w in
@@ -66,24 +62,20 @@ intact bytes l e =
       few = omega (
         arith,
         x.words,
-        frame_few newest_edition bytes {r = Words (length ws)} {n = length ws} refl (unfold frame_of in
+        frame_few newest_edition bytes {r = Some (length ws)} {n = length ws} refl (unfold frame_of in
             sym (ap frame_of e₁)),
       );
     }
   where
-    ended : (ws : List ℕ) → layout_of ws 2 ≡ got l (length ws) → step_of (layout_of ws 2) ≡ Next (length ws)
+    ended : (ws : List ℕ) → layout_of ws 2 ≡ got l (length ws) → step_of (layout_of ws 2) ≡ Some (length ws)
     ended ws e = unfold step_of in ap step_of e
 
     module_is : (ws : List ℕ) (m : Module) → module_of ws 2 ≡ got m (length ws) → m ≡ module_in ws
     module_is ws m g = unfold module_in in sym (value_got no_module g)
 
 -- as code finds it
-pub checked_intact : (bytes : List ℕ) (l : Layout) {r : Checked} → r ≡ Checked.Intact l → r ≡ checked_of (layout bytes) → Intact bytes l
-checked_intact bytes l e k = intact bytes l (go (layout bytes) (sym e ∙ k))
-  where
-    go : (o : Option Layout) → Checked.Intact l ≡ checked_of o → o ≡ some l
-    go none h = unfold checked_of in let z : ◌≡◌ {A = ℕ} 0 1 = cc in absurd (omega arith)
-    go (some k) h = unfold checked_of in ap some (cc)
+pub checked_intact : (bytes : List ℕ) (l : Layout) {r : Option Layout} → r ≡ Some l → r ≡ layout bytes → Intact bytes l
+checked_intact bytes l e k = intact bytes l (sym k ∙ e)
 
 module _ (ws : List ℕ) (m : Module) (l : Layout) (x : Located ws m l) where
   -- ── where the members stand ──

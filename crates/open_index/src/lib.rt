@@ -1,13 +1,13 @@
 // Where each string, type, constant, import and function of an intact sheet stands and ends, written to lent words.
 #![tactic(auto)]
 
-ghost use Rattle.std.specs.Prelude.{◌≡◌, ◌+◌, ◌≤◌, ◌<◌, ◌^◌, length};
+ghost use Rattle.std.specs.Prelude.{◌≡◌, ℕ, Option, ◌+◌, ◌≤◌, ◌<◌, ◌^◌, length};
 ghost use Rattle.std.proofs.Math.Seq.{paste};
 ghost use Rattle.blocks.specs.Frame.{first_words};
 ghost use Rattle.reader.specs.Reader.{list_of};
 ghost use Rattle.reader.specs.Step.{step_of};
 ghost use Rattle.reader.specs.Value.{Whole};
-ghost use Rattle.open_index.specs.Index.{member_of, edges_of, Indexable, index, index_of};
+ghost use Rattle.open_index.specs.Index.{Part, member_of, edges_of, Indexable, index, index_of};
 
 use blocks::word;
 use open_funcs::skip_function;
@@ -15,63 +15,34 @@ use open_layout::Layout;
 use open_parts::consts::skip_const;
 use open_parts::imports::skip_import;
 use open_types::skip_type;
-use reader::{Step, skip_string};
+use reader::skip_string;
 
-// The parts whose members are reached by number.
-#[derive(Clone, Copy)]
-pub enum Part {
-    Strings,
-    Types,
-    Consts,
-    Imports,
-    Funcs,
-}
-
-fn skip_member(sheet: &[u8], n: usize, part: Part, at: usize) -> Step
-    ensures { result ≡ step_of (member_of part (first_words sheet.now n) at) }
-{
-    match part {
-        Part::Strings => skip_string(sheet, n, at),
-        Part::Types => skip_type(sheet, n, at),
-        Part::Consts => skip_const(sheet, n, at),
-        Part::Imports => skip_import(sheet, n, at),
-        Part::Funcs => skip_function(sheet, n, at),
-    }
-}
-
-// Writes where each member of the list at `at` stands, and where the list ends, to work[base..], and nothing else; gives the word after them.
-pub fn index_part(
+// Writes where each member of the list at `at` stands, and where it ends, to work[base..] alone; gives the word after them.
+pub fn index_part<F: Fn(usize) -> Option<usize>>(
     sheet: &[u8],
     n: usize,
-    part: Part,
     at: usize,
+    skip: F,
     work: &mut [u32],
     base: usize,
 ) -> usize
+    ghost part: { Part }
+    requires callable { F.IsAlwaysCallable skip }
+    requires passes { (p : ℕ) (r : Option ℕ) → F.post skip p r → r ≡ step_of (member_of part (first_words sheet.now n) p) }
     requires whole { Whole (list_of (member_of part) (first_words sheet.now n) at) }
     requires n_bound { n < 2 ^ 32 }
     requires at_in_bounds { base + length (edges_of part (first_words sheet.now n) at) ≤ length work.old }
     ensures value { result ≡ base + length (edges_of part (first_words sheet.now n) at) }
     ensures work_after { work.new ≡ paste work.old base (edges_of part (first_words sheet.now n) at) (length (edges_of part (first_words sheet.now n) at)) }
 {
-    let mut left = word(sheet, at);
+    let end = base + word(sheet, at) as usize;
     let mut p = at + 1;
-    let mut i = base;
-    while 0 < left {
+    for i in base..end {
         work[i] = p as u32;
-        match skip_member(sheet, n, part, p) {
-            Step::Next(q) => {
-                p = q;
-            }
-            Step::Broken => {
-                return i;
-            }
-        }
-        i += 1;
-        left -= 1;
+        p = skip(p).unwrap();
     }
-    work[i] = p as u32;
-    i + 1
+    work[end] = p as u32;
+    end + 1
 }
 
 // Where each part's edges begin in the index, and where the index ends.
@@ -93,17 +64,39 @@ pub fn index_sheet(sheet: &[u8], l: Layout, work: &mut [u32]) -> Index
     ensures value { result ≡ index_of (first_words sheet.now l.words) l }
     ensures work_after { work.new ≡ paste work.old 0 (index (first_words sheet.now l.words) l) (length (index (first_words sheet.now l.words) l)) }
 {
-    let types = index_part(sheet, l.words, Part::Strings, l.strings, work, 0);
-    let consts = index_part(sheet, l.words, Part::Types, l.types, work, types);
-    let imports = index_part(sheet, l.words, Part::Consts, l.consts, work, consts);
-    let funcs = index_part(sheet, l.words, Part::Imports, l.imports, work, imports);
-    let end = index_part(sheet, l.words, Part::Funcs, l.funcs, work, funcs);
+    let n = l.words;
+    let types = index_part(sheet, n, l.strings, |p| skip_string(sheet, n, p), work, 0);
+    let consts = index_part(sheet, n, l.types, |p| skip_type(sheet, n, p), work, types);
+    let imports = index_part(
+        sheet,
+        n,
+        l.consts,
+        |p| skip_const(sheet, n, p),
+        work,
+        consts,
+    );
+    let funcs = index_part(
+        sheet,
+        n,
+        l.imports,
+        |p| skip_import(sheet, n, p),
+        work,
+        imports,
+    );
+    let end = index_part(
+        sheet,
+        n,
+        l.funcs,
+        |p| skip_function(sheet, n, p),
+        work,
+        funcs,
+    );
     Index {
         strings: 0,
-        types: types,
-        consts: consts,
-        imports: imports,
-        funcs: funcs,
-        end: end,
+        types,
+        consts,
+        imports,
+        funcs,
+        end,
     }
 }

@@ -1,14 +1,12 @@
 -- Where the nine parts of a sheet stand: a list's position is that of its count.
 use Rattle.std.specs.Prelude.{ℕ, List, length}
-use Rattle.std.proofs.Math.Option.{Option, none, some}
+use Rattle.std.specs.Prelude.{Option}
 use Rattle.blocks.specs.Blocks.{framed}
 use Rattle.reader.specs.Reader.{got, Reader, and_then, ◌>>=◌, pure, word, list_of, content}
 use Rattle.reader.specs.Text.{string}
 use Rattle.sheet.specs.Editions.{newest_edition}
 use Rattle.sheet.specs.Decode.{type_def, const_of, import_of, global_of, function_of, hook_of, export_of}
 use Rattle.open_layout.specs.declared.Layout.{Layout}
-use Rattle.open_layout.specs.declared.Checked.{Checked}
-use Rattle.open_layout.specs.declared.Checked.TheVariants.{Broken, Intact}
 
 -- how many words there are
 unfoldable pub size : Reader ℕ
@@ -36,7 +34,3 @@ layout_of = do
 -- none where the layout is broken
 unfoldable pub layout : List ℕ → Option Layout
 layout bytes = content layout_of (framed newest_edition bytes)
-
-unfoldable pub checked_of : Option Layout → Checked
-checked_of none = Broken
-checked_of (some l) = Intact l

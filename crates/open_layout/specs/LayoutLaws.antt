@@ -2,7 +2,7 @@
 use Rattle.std.specs.Prelude.{ℕ, ◌≡◌, ◌↔◌, List, Bool, true, false, cond, eqb, length}
 use Rattle.std.proofs.Math.Path.{refl}
 use Rattle.std.proofs.Common.{sym, ap, subst, ◌∙◌, arith}
-use Rattle.std.proofs.Math.Option.{Option, none, some}
+use Rattle.std.specs.Prelude.{Option, None, Some}
 use Rattle.blocks.specs.Blocks.{edition_word, framed}
 use Rattle.reader.specs.Reader.{Got, broken, got, word, list_of, stated, whole, content}
 use Rattle.reader.specs.Text.{string}
@@ -31,26 +31,26 @@ layout_module ws p =
     pos_alike p₇ (word ws p₇) _ _ λ st p₈.
     pos_alike p₈ (list_of export_of ws p₈) _ _ λ es q. ends_alike _ _ q
 
-whole_alike : {A B : Type 0} (n : ℕ) (g : Got A) (h : Got B) → step_of g ≡ step_of h → (whole n g ≡ none) → (whole n h ≡ none)
+whole_alike : {A B : Type 0} (n : ℕ) (g : Got A) (h : Got B) → step_of g ≡ step_of h → (whole n g ≡ None) → (whole n h ≡ None)
 unfolding whole step_of
 whole_alike n g broken e k = refl
 whole_alike n broken (got b q) e k = let z : ◌≡◌ {A = ℕ} 0 1 = cc in absurd (omega arith)
 whole_alike n (got a p) (got b q) e k = let z : p ≡ q = cc in go a b (eqb p n) (eqb q n) (ap (λ x. eqb x n) z) k
   where
-    go : {A B : Type 0} (a : A) (b : B) (x y : Bool) → x ≡ y → cond x (some a) none ≡ none → cond y (some b) none ≡ none
+    go : {A B : Type 0} (a : A) (b : B) (x y : Bool) → x ≡ y → cond x (Some a) None ≡ None → cond y (Some b) None ≡ None
     go a b true true e k = let z : ◌≡◌ {A = ℕ} 0 1 = cc in absurd (omega arith)
     go a b true false e k = refl
     go a b false true e k = let z : ◌≡◌ {A = ℕ} 0 1 = cc in absurd (omega arith)
     go a b false false e k = refl
 
 -- THE LAYOUT IS BROKEN EXACTLY WHERE NOTHING IS DECODED
-pub layout_broken : (bytes : List ℕ) → (layout bytes ≡ none) ↔ (decode bytes ≡ none)
+pub layout_broken : (bytes : List ℕ) → (layout bytes ≡ None) ↔ (decode bytes ≡ None)
 unfolding layout decode
 layout_broken bytes = go (framed newest_edition bytes)
   where
-    go : (o : Option (List ℕ)) → (content layout_of o ≡ none) ↔ (content module_of o ≡ none)
-    go none = unfold content in (λ e. refl, λ e. refl)
-    go (some ws) =
+    go : (o : Option (List ℕ)) → (content layout_of o ≡ None) ↔ (content module_of o ≡ None)
+    go None = unfold content in (λ e. refl, λ e. refl)
+    go (Some ws) =
         unfold content in (
           whole_alike (length ws) (layout_of ws 2) (module_of ws 2) (layout_module ws 2),
           whole_alike (length ws) (module_of ws 2) (layout_of ws 2) (sym (layout_module ws 2)),

@@ -2,12 +2,11 @@
 #![tactic(auto)]
 
 ghost use Rattle.std.specs.Prelude.{◌≡◌};
-ghost use Rattle.open_layout.specs.Layout.{layout, checked_of};
+ghost use Rattle.open_layout.specs.Layout.{layout};
 
 pub mod parts;
 
 use crate::parts::check_words;
-use blocks::Frame;
 
 // Where the nine parts stand: lists at their counts, start at its word. `words` is N.
 #[derive(Clone, Copy)]
@@ -24,18 +23,11 @@ pub struct Layout {
     pub exports: usize,
 }
 
-#[derive(Clone, Copy)]
-pub enum Checked {
-    Broken,
-    Intact(Layout),
-}
-
 // Kind 1 where it is broken. One pass over the bytes for the blocks, one over the words for the parts.
-pub fn check_sheet(sheet: &[u8]) -> Checked
-    ensures { result ≡ checked_of (layout sheet.now) }
+#[tactic(auto, using(crate::proofs::LayoutSteps::frames))]
+pub fn check_sheet(sheet: &[u8]) -> Option<Layout>
+    ensures { result ≡ layout sheet.now }
 {
-    match blocks::read_frame(sheet, 2) {
-        Frame::Words(n) => check_words(sheet, n),
-        Frame::Broken => Checked::Broken,
-    }
+    let n = blocks::read_frame(sheet, 2)?;
+    check_words(sheet, n)
 }

@@ -6,36 +6,23 @@ ghost use Rattle.reader.specs.Text.{string};
 ghost use Rattle.reader.specs.Step.{step_of};
 ghost use Rattle.open_layout.specs.Parts.{first_parts, middle_parts, last_parts};
 
-use crate::{Checked, Layout};
+use crate::Layout;
 use open_funcs::skip_functions;
 use open_parts::consts::skip_consts;
 use open_parts::imports::{skip_globals, skip_imports};
 use open_parts::tail::{skip_exports, skip_hooks};
 use open_types::skip_types;
-use reader::{Step, skip_string};
-use sheet_reader::{Taken, next_word};
+use reader::{skip_list, skip_string};
+use sheet_reader::next_word;
 
-pub fn skip_strings(sheet: &[u8], n: usize, at: usize) -> Step
+pub fn skip_strings(sheet: &[u8], n: usize, at: usize) -> Option<usize>
     ensures { result ≡ step_of (list_of string (first_words sheet.now n) at) }
 {
-    let Taken::Word(mut left, mut p) = next_word(sheet, n, at) else {
-        return Step::Broken;
-    };
-    while 0 < left {
-        match skip_string(sheet, n, p) {
-            Step::Next(q) => {
-                p = q;
-            }
-            Step::Broken => {
-                return Step::Broken;
-            }
-        }
-        left -= 1;
-    }
-    Step::Next(p)
+    skip_list(sheet, n, at, |p| skip_string(sheet, n, p))
 }
 
 // Hooks, start and exports; the exports end at n.
+#[tactic(auto, using(crate::proofs::LayoutSteps::lasts))]
 fn check_last(
     sheet: &[u8],
     n: usize,
@@ -45,63 +32,53 @@ fn check_last(
     globals: usize,
     funcs: usize,
     hooks: usize,
-) -> Checked
+) -> Option<Layout>
     ensures { result ≡ last_parts n (first_words sheet.now n) types consts imports globals funcs hooks }
 {
-    let Step::Next(start) = skip_hooks(sheet, n, hooks) else {
-        return Checked::Broken;
-    };
-    let Taken::Word(_, exports) = next_word(sheet, n, start) else {
-        return Checked::Broken;
-    };
-    let Step::Next(end) = skip_exports(sheet, n, exports) else {
-        return Checked::Broken;
-    };
-    if end == n {
-        return Checked::Intact(Layout {
-            words: n,
-            strings: 2,
-            types: types,
-            consts: consts,
-            imports: imports,
-            globals: globals,
-            funcs: funcs,
-            hooks: hooks,
-            start: start,
-            exports: exports,
-        });
+    let start = skip_hooks(sheet, n, hooks)?;
+    let (_, exports) = next_word(sheet, n, start)?;
+    let end = skip_exports(sheet, n, exports)?;
+    if end != n {
+        return None;
     }
-    Checked::Broken
+    Some(Layout {
+        words: n,
+        strings: 2,
+        types,
+        consts,
+        imports,
+        globals,
+        funcs,
+        hooks,
+        start,
+        exports,
+    })
 }
 
 // Imports, globals and functions, then the rest.
-fn check_middle(sheet: &[u8], n: usize, types: usize, consts: usize, imports: usize) -> Checked
+#[tactic(auto, using(crate::proofs::LayoutSteps::middles))]
+fn check_middle(
+    sheet: &[u8],
+    n: usize,
+    types: usize,
+    consts: usize,
+    imports: usize,
+) -> Option<Layout>
     ensures { result ≡ middle_parts n (first_words sheet.now n) types consts imports }
 {
-    let Step::Next(globals) = skip_imports(sheet, n, imports) else {
-        return Checked::Broken;
-    };
-    let Step::Next(funcs) = skip_globals(sheet, n, globals) else {
-        return Checked::Broken;
-    };
-    let Step::Next(hooks) = skip_functions(sheet, n, funcs) else {
-        return Checked::Broken;
-    };
+    let globals = skip_imports(sheet, n, imports)?;
+    let funcs = skip_globals(sheet, n, globals)?;
+    let hooks = skip_functions(sheet, n, funcs)?;
     check_last(sheet, n, types, consts, imports, globals, funcs, hooks)
 }
 
 // Strings, types and constants, then the rest; the first two words are edition and N.
-pub fn check_words(sheet: &[u8], n: usize) -> Checked
+#[tactic(auto, using(crate::proofs::LayoutSteps::firsts))]
+pub fn check_words(sheet: &[u8], n: usize) -> Option<Layout>
     ensures { result ≡ first_parts n (first_words sheet.now n) }
 {
-    let Step::Next(types) = skip_strings(sheet, n, 2) else {
-        return Checked::Broken;
-    };
-    let Step::Next(consts) = skip_types(sheet, n, types) else {
-        return Checked::Broken;
-    };
-    let Step::Next(imports) = skip_consts(sheet, n, consts) else {
-        return Checked::Broken;
-    };
+    let types = skip_strings(sheet, n, 2)?;
+    let consts = skip_types(sheet, n, types)?;
+    let imports = skip_consts(sheet, n, consts)?;
     check_middle(sheet, n, types, consts, imports)
 }

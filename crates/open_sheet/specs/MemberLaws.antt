@@ -1,7 +1,7 @@
 -- The words of a function and of an import by number, as code reads them.
 use Rattle.std.specs.Prelude.{ℕ, ◌+◌, ◌<◌, ◌≡◌, List, get_or}
 use Rattle.std.proofs.Common.{ap, ◌∙◌, arith}
-use Rattle.std.proofs.Math.Option.{none}
+use Rattle.std.specs.Prelude.{None}
 use Rattle.blocks.specs.Blocks.{words}
 use Rattle.blocks.specs.Frame.{first_words}
 use Rattle.reader.specs.Reader.{got}
@@ -35,7 +35,7 @@ module _ (b w : List ℕ) (o : Opened) (x : Ready (first_words b o.layout.words)
     pub import_within : p + 2 < o.layout.words
     unfolding encode_import
     import_within =
-        let d : Import = record { module_name = 0; name = 0; sig = 0; params = none } in
+        let d : Import = record { module_name = 0; name = 0; sig = 0; params = None } in
         word_within import_of encode_import _ b o.layout.words (import_codes ws) p (get_or (module_in ws).imports i d) _ (import_stands d) 2 (omega arith)
 
     -- word k of the record

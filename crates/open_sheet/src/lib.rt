@@ -15,6 +15,7 @@ use open_canon::canonical;
 use open_index::{Index, index_sheet};
 use open_layout::Layout;
 use region::{at, fill};
+use sorting::contents::Items;
 
 // How many of each there are.
 #[derive(Clone, Copy)]
@@ -59,21 +60,20 @@ fn number_parts(sheet: &[u8], e: u32, l: Layout, x: Index, c: Counts, work: &mut
     ensures { (result.layout ≡ l) × Ready (first_words sheet.now l.words) work.new result }
 {
     let n = l.words;
-    let strings = c.strings as usize;
-    let types = c.types as usize;
-    canonical(
-        sheet,
-        n,
-        work,
-        strings,
-        x.strings,
-        4 * n,
-        5 * n,
-        1 * n,
-        false,
-    );
-    canonical(sheet, n, work, types, x.types, 4 * n, 5 * n, 2 * n, true);
-    fill(work, 3 * n, strings, 0);
+    let strings = Items {
+        bytes: sheet,
+        words: n,
+        n: c.strings as usize,
+        edges_at: x.strings,
+    };
+    let types = Items {
+        n: c.types as usize,
+        edges_at: x.types,
+        ..strings
+    };
+    canonical(strings, work, 4 * n, 5 * n, 1 * n, false);
+    canonical(types, work, 4 * n, 5 * n, 2 * n, true);
+    fill(work, 3 * n, strings.n, 0);
     Opened {
         edition: e,
         layout: l,
@@ -94,7 +94,7 @@ pub fn open_sheet(sheet: &[u8], l: Layout, work: &mut [u32]) -> Opened
     number_parts(sheet, word(sheet, 0), l, x, c, work)
 }
 
-// Where a string, a type, a constant, an import, a function stands, by its number.
+// Where a string, a type, a constant, an import, a function stands, by its number. One read each: a trait of numbers would be longer.
 pub fn string_at(work: &[u32], o: Opened, s: StrId) -> usize
     requires { o.index.strings + s.0 < length work.now }
     ensures { result ≡ pos_at work.now o.index.strings s.0 }

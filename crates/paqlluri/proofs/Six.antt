@@ -1,7 +1,7 @@
 -- The six words that are stored are those of the answer.
 use mathlib.Core.Path.{◌≡◌, ◌∙◌, ap}
 use mathlib.Core.List.{[], ◌∷◌}
-use Rattle.error.specs.declared.Loaded.{Loaded}
+use Rattle.error.specs.Answer.{Loaded}
 use Rattle.error.specs.declared.numbers.SixNumbers.{SixNumbers}
 use Rattle.error.specs.Answer.{numbers}
 use Rattle.error.specs.Numbers.{six_of}

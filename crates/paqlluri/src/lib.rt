@@ -8,15 +8,15 @@ ghost use Rattle.descends.specs.Descends.{descends};
 ghost use Rattle.descends.specs.Sizes.{size_in, size_numbers};
 ghost use Rattle.families.specs.Counted.{structs_in, count_numbers};
 
-use descends::FamilySize;
+use descends::QueryError;
 use error::TypeId;
 use error::numbers::numbers;
-use families::StructCount;
 
 pub mod lengths;
 pub mod nearest;
 
 // Loads a sheet under a host list; answers the six numbers.
+#[tactic(auto, using(crate::proofs::Six::six))]
 pub fn paqlluri_load(
     sheet: &[u8],
     hosts: &[u8],
@@ -40,29 +40,23 @@ pub fn paqlluri_descends(table: &[u32], t: u32, a: u32) -> u32
 }
 
 // Kind, 0 or 25, and how many types descend from a, itself included: 0 where a is no struct type.
+#[tactic(auto, using(crate::proofs::Two::sizes))]
 pub fn paqlluri_family_size(table: &[u32], a: u32, answer: &mut [u32; 2])
     ensures { answer.new ≡ size_numbers (size_in table.now a) }
 {
-    match query::family_size(table, TypeId(a)) {
-        FamilySize::Size(n) => {
-            *answer = [0, n];
-        }
-        FamilySize::NotLinked => {
-            *answer = [25, 0];
-        }
-    }
+    *answer = match query::family_size(table, TypeId(a)) {
+        Ok(n) => [0, n],
+        Err(QueryError::NotLinked) => [25, 0],
+    };
 }
 
 // Kind, 0 or 1, and how many struct types the sheet declares.
+#[tactic(auto, using(crate::proofs::Two::counts))]
 pub fn paqlluri_count_structs(sheet: &[u8], answer: &mut [u32; 2])
     ensures { answer.new ≡ count_numbers (structs_in sheet.now) }
 {
-    match family_sheets::count_structs(sheet) {
-        StructCount::Structs(n) => {
-            *answer = [0, n];
-        }
-        StructCount::Broken => {
-            *answer = [1, 0];
-        }
-    }
+    *answer = match family_sheets::count_structs(sheet) {
+        Some(n) => [0, n],
+        None => [1, 0],
+    };
 }

@@ -1,3 +1,2 @@
 pub mod QuerySteps
 pub mod SizeSteps
-pub mod LengthSteps

@@ -8,6 +8,7 @@ use native.Mathlib.Decide.{dec_lt}
 use lib.Dec.{eqb, leb, ltb}
 use lib.ListN.{length, get_or}
 use borrow.Author.Tests.{le-leb, lt-leb, eq-eqb, ne_eqb, lt-ltb, le-ltb}
+use Rattle.std.specs.Int.{from_bool}
 use Rattle.descends.proofs.DescendsLaws.{linked}
 use Rattle.descends.specs.Descends.{table_length, spans_start, span_count, spans_end, is_linked, pre_in, post_in, is_within, descends}
 
@@ -186,15 +187,22 @@ module _ (ws : List ℕ) (t a : ℕ) {l : Bool} (e : l ≡ is_linked ws) where
   unfolding descends
   not_linked_lem h = by_linked ws (cond (is_within ws t a) 1 0) 25 e h
 
-  module _ (h : l ≡ true) {w : Bool} (f : w ≡ is_within ws t a) where
-    answer : {x : Bool} → w ≡ x → descends ws t a ≡ cond x 1 0
-    unfolding descends
-    answer {x} k = sym (by_linked ws (cond (is_within ws t a) 1 0) 25 e h) ∙ ap (λ y. cond y 1 0) (sym f ∙ k)
+  module _ (h : l ≡ true) {start count : ℕ} (s : start ≡ get_or ws 9 0) (c : count ≡ get_or ws start 0) where
+    pub start_told : start ≡ spans_start ws
+    start_told = (spans_inside ws (asked ws e h) s c).0
 
-    pub yes_within : w ≡ true → 1 ≡ descends ws t a
-    yes_within k = sym (answer k)
+    pub count_told : count ≡ span_count ws
+    count_told = (spans_inside ws (asked ws e h) s c).1.0
 
-    pub not_within : w ≡ false → 0 ≡ descends ws t a
-    not_within k = sym (answer k)
+    pub room_told : start + 1 + 3 * count ≤ length ws
+    room_told = (spans_inside ws (asked ws e h) s c).1.1
 
-pub ruleset querying = (not_linked_lem, asked, yes_within, not_within)
+  pub within_told : l ≡ true → {w : Bool} {x : ℕ} → w ≡ is_within ws t a → x ≡ from_bool w → x ≡ descends ws t a
+  unfolding descends
+  within_told h f g = g ∙ ap from_bool f ∙ one (is_within ws t a) ∙ by_linked ws (cond (is_within ws t a) 1 0) 25 e h
+    where
+      one : (b : Bool) → from_bool b ≡ cond b 1 0
+      one true = refl
+      one false = refl
+
+pub ruleset querying = (not_linked_lem, asked, start_inside, header_inside, start_told, count_told, room_told, within_told)

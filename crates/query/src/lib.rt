@@ -1,21 +1,15 @@
 // The queries on a linked table: who descends from whom, how many do, and how long a chain is.
 #![tactic(auto)]
 
-ghost use Rattle.std.specs.Prelude.{◌≡◌, true, ◌+◌, ◌*◌, ◌≤◌, ◌<◌, length, get_or};
-ghost use Rattle.descends.specs.Descends.{spans_start, span_count, is_linked, length_in, if_known, is_within, descends};
+ghost use Rattle.std.specs.Prelude.{◌≡◌, ◌+◌, ◌*◌, ◌≤◌, ◌<◌, length, get_or};
+ghost use Rattle.descends.specs.Descends.{spans_start, span_count, is_linked, is_within, descends};
 ghost use Rattle.descends.specs.Lengths.{chain_length_in};
-ghost use Rattle.descends.specs.Sizes.{width_in, size_in};
+ghost use Rattle.descends.specs.Sizes.{size_in};
+ghost use Rattle.query.specs.Spans.{span_of};
 
-use descends::{ChainLength, FamilySize};
+use descends::QueryError;
 use error::TypeId;
 use region::at;
-
-fn wide(x: u32) -> usize
-    ensures value { result ≡ x }
-    ensures upper_bound { result < 4294967296 }
-{
-    x as usize
-}
 
 // A word of the table.
 pub fn word_at(table: &[u32], start: usize) -> usize
@@ -23,7 +17,7 @@ pub fn word_at(table: &[u32], start: usize) -> usize
     ensures value { result ≡ get_or table.now start 0 }
     ensures upper_bound { result < 4294967296 }
 {
-    wide(table[start])
+    table[start] as usize
 }
 
 // Edition 2, and a spans section inside the L words. Three times a count of 32 bits does not wrap.
@@ -72,81 +66,50 @@ fn is_within(table: &[u32], start: usize, count: usize, t: u32, a: u32) -> bool
     pre < at(table, own + 1)
 }
 
-fn answer(table: &[u32], t: u32, a: u32) -> bool
-    requires { is_linked table.now ≡ true }
-    ensures { result ≡ is_within table.now t a }
-{
-    let start = at(table, 9);
-    is_within(table, start, at(table, start), t, a)
-}
-
-// 1 where t is a or descends from it, 0 where not, 25 where the words are no linked table.
+// 1 where t is a or descends from it, 0 where not, 25 where the words are no linked table: a number, as C and the statements have it.
+#[tactic(auto, using(crate::proofs::QuerySteps::querying))]
 pub fn descends(table: &[u32], t: TypeId, a: TypeId) -> u32
     ensures { result ≡ descends table.now t.0 a.0 }
 {
-    if is_linked(table) {
-        if answer(table, t.0, a.0) {
-            return 1;
-        }
-        return 0;
+    if !is_linked(table) {
+        return 25;
     }
-    25
-}
-
-// Post minus pre of a known type, the spans' count standing at start; on words that no load wrote post may be below pre.
-fn width_at(table: &[u32], start: usize, a: u32) -> u32
-    requires start_value { start ≡ spans_start table.now }
-    requires a_in_bounds { start + 2 + 3 * a < length table.now }
-    ensures { result ≡ width_in table.now a }
-{
-    let own = start + 1 + 3 * a as usize;
-    let pre = table[own];
-    let post = table[own + 1];
-    if post < pre {
-        return 0;
-    }
-    post - pre
-}
-
-fn known_width(table: &[u32], a: u32) -> u32
-    requires { is_linked table.now ≡ true }
-    ensures { result ≡ if_known table.now a (width_in table.now a) }
-{
     let start = at(table, 9);
-    if word_at(table, start) <= a as usize {
-        return 0;
-    }
-    width_at(table, start, a)
+    u32::from(is_within(table, start, at(table, start), t.0, a.0))
 }
 
-// How many types descend from a, itself included: 0 where a is no struct type or no type at all.
-pub fn family_size(table: &[u32], a: TypeId) -> FamilySize
+// Where the span of a type stands: none for a number that is no type.
+#[tactic(auto, using(crate::proofs::SizeSteps::spanning))]
+fn span_of(table: &[u32], t: TypeId) -> Result<Option<usize>, QueryError>
+    ensures { result ≡ span_of table.now t.0 }
+{
+    if !is_linked(table) {
+        return Err(QueryError::NotLinked);
+    }
+    let start = at(table, 9);
+    if at(table, start) <= t.0 as usize {
+        return Ok(None);
+    }
+    Ok(Some(start + 1 + 3 * t.0 as usize))
+}
+
+// How many types descend from a, itself included: post minus pre, and 0 where a is no struct type or no type at all.
+// On words that no load wrote post may be below pre.
+pub fn family_size(table: &[u32], a: TypeId) -> Result<u32, QueryError>
     ensures { result ≡ size_in table.now a.0 }
 {
-    if is_linked(table) {
-        return FamilySize::Size(known_width(table, a.0));
+    match span_of(table, a)? {
+        Some(own) => Ok(table[own + 1].saturating_sub(table[own])),
+        None => Ok(0),
     }
-    FamilySize::NotLinked
-}
-
-// The third word of a known type's span.
-fn known_length(table: &[u32], t: u32) -> u32
-    requires { is_linked table.now ≡ true }
-    ensures { result ≡ if_known table.now t (length_in table.now t) }
-{
-    let start = at(table, 9);
-    if word_at(table, start) <= t as usize {
-        return 0;
-    }
-    table[start + 3 + 3 * t as usize]
 }
 
 // How many numbers the chain of t has: 1 at a root, 0 where t is no struct type or no type at all.
-pub fn chain_length(table: &[u32], t: TypeId) -> ChainLength
+pub fn chain_length(table: &[u32], t: TypeId) -> Result<u32, QueryError>
     ensures { result ≡ chain_length_in table.now t.0 }
 {
-    if is_linked(table) {
-        return ChainLength::Length(known_length(table, t.0));
+    match span_of(table, t)? {
+        Some(own) => Ok(table[own + 2]),
+        None => Ok(0),
     }
-    ChainLength::NotLinked
 }

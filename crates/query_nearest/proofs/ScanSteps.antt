@@ -3,7 +3,7 @@ use Prim.Native.Nat.{ℕ, zero, suc, ◌+◌, ◌-◌, ◌*◌, ◌≤◌, ◌<�
 use mathlib.Core.Path.{◌≡◌, refl, sym, ap, ap₂, ◌∙◌, subst, fun_ext}
 use mathlib.Core.List.{List, ◌∷◌}
 use mathlib.Core.Bool.{Bool, true, false, cond, ◌&&◌, and_comm}
-use mathlib.Core.Option.{Option, none, some}
+use Rattle.std.specs.Prelude.{Option, None, Some, Err, Ok}
 use native.Mathlib.Omega.{arith}
 use lib.Dec.{T, leb, ltb}
 use lib.ListN.{length, get_or}
@@ -13,12 +13,12 @@ use Rattle.lists.specs.Best.{winner, best}
 use Rattle.lists.specs.ListLaws.{T_true, T_of, both, and_first, and_second, and_t, and_false}
 use Rattle.law_counting.specs.Counting.{bool_ext}
 use Rattle.law_counting.specs.Kept.{keep_none}
+use Rattle.error.specs.declared.TypeId.{TypeId}
 use Rattle.error.specs.Answer.{type_number}
 use Rattle.descends.specs.Descends.{span_count, is_linked, pre_in, post_in, is_within}
 use Rattle.descends.proofs.DescendsLaws.{pre_is, post_is, within_is, is_within_lem, not_within}
 use Rattle.descends.specs.Sizes.{width_in}
-use Rattle.descends.specs.declared.NearestFamily.{NearestFamily}
-use Rattle.descends.specs.declared.NearestFamily.TheVariants.{Found, NoFamily, NotLinked}
+use Rattle.descends.specs.declared.QueryError.TheVariants.{NotLinked}
 use Rattle.descends.specs.Nearest.{holds_both, is_narrower, nearest_of, family_of, nearest_in}
 use Rattle.query.proofs.QuerySteps.{spans_inside, start_inside, header_inside, asked, by_linked}
 use Rattle.query_nearest.specs.declared.Candidate.{Candidate}
@@ -36,7 +36,7 @@ module _ (ws : List ℕ) (low high a : ℕ) (known : a < span_count ws) where
       let s : suc a ≡ a + 1 = omega arith in
       ap (from a) n ∙ ap (λ x. a ∷ from x (span_count ws - (a + 1))) s
 
-  one_more : {h : Bool} → holds ws low high a ≡ h → best_from ws low high a ≡ cond h (some (winner (is_narrower ws) a later)) later
+  one_more : {h : Bool} → holds ws low high a ≡ h → best_from ws low high a ≡ cond h (Some (winner (is_narrower ws) a later)) later
   unfolding best_from best
   one_more {h} e =
       let rest = keep (holds ws low high) (from (a + 1) (span_count ws - (a + 1))) in
@@ -46,24 +46,24 @@ module _ (ws : List ℕ) (low high a : ℕ) (known : a < span_count ws) where
     where
       chosen : (b : Bool) (l : List ℕ) →
           let o = best (is_narrower ws) l in
-          best (is_narrower ws) (cond b (a ∷ l) l) ≡ cond b (some (winner (is_narrower ws) a o)) o
+          best (is_narrower ws) (cond b (a ∷ l) l) ≡ cond b (Some (winner (is_narrower ws) a o)) o
       chosen true l = refl
       chosen false l = refl
 
   -- a that is no wider than the best of the later ones takes its place
   winner_own : (o : Option ℕ) → width_in ws a ≤ least_of ws o → winner (is_narrower ws) a o ≡ a
   unfolding winner least_of is_narrower
-  winner_own none h = refl
-  winner_own (some f) h = ap (λ b. cond b f a) (le-ltb (width_in ws f) (width_in ws a) h)
+  winner_own None h = refl
+  winner_own (Some f) h = ap (λ b. cond b f a) (le-ltb (width_in ws f) (width_in ws a) h)
 
-  winner_kept : (o : Option ℕ) → width_in ws a ≤ 4294967295 → least_of ws o < width_in ws a → some (winner (is_narrower ws) a o) ≡ o
+  winner_kept : (o : Option ℕ) → width_in ws a ≤ 4294967295 → least_of ws o < width_in ws a → Some (winner (is_narrower ws) a o) ≡ o
   unfolding winner least_of is_narrower
-  winner_kept none f h = absurd (omega arith)
-  winner_kept (some g) f h = ap (λ b. some (cond b g a)) (lt-ltb (width_in ws g) (width_in ws a) h)
+  winner_kept None f h = absurd (omega arith)
+  winner_kept (Some g) f h = ap (λ b. Some (cond b g a)) (lt-ltb (width_in ws g) (width_in ws a) h)
 
   module _ {c : Candidate} (s : Scanned ws low high (a + 1) c) where
     same_best : best_from ws low high a ≡ later → Scanned ws low high a c
-    same_best e = record { found = e ∙ s.found; least = s.least ∙ ap (least_of ws) (sym e) }
+    same_best e = record { found = s.found ∙ ap numbered (sym e); least = s.least ∙ ap (least_of ws) (sym e) }
 
     module _ {start pre post : ℕ} (w : Spans ws start low high)
         (e : pre ≡ get_or ws (start + 1 + 3 * a) 0) (f : post ≡ get_or ws (start + 1 + 3 * a + 1) 0) where
@@ -97,13 +97,13 @@ module _ (ws : List ℕ) (low high a : ℕ) (known : a < span_count ws) where
           is_wider b i = same_best (one_more (sym held_is ∙ k)
               ∙ winner_kept later (omega (arith, width_is)) (omega (arith, width_is, s.least)))
 
-          pub no_wider : post - pre ≤ c.width → Scanned ws low high a (record { family = a; width = post - pre })
+          pub no_wider : post - pre ≤ c.width → Scanned ws low high a (record { family = Some (type_number a); width = post - pre })
           unfolding numbered least_of
           no_wider i =
-              let own : best_from ws low high a ≡ some a =
-              one_more (sym held_is ∙ k) ∙ ap some (winner_own later (omega (arith, width_is, s.least))) in
+              let own : best_from ws low high a ≡ Some a =
+              one_more (sym held_is ∙ k) ∙ ap Some (winner_own later (omega (arith, width_is, s.least))) in
               record {
-                found = own ∙ sym (ap (λ b. cond b (some a) none) (lt-ltb a (span_count ws) known));
+                found = sym (ap numbered own);
                 least = width_is ∙ sym (ap (least_of ws) own);
               }
 
@@ -119,13 +119,13 @@ pub ruleset bettering = (passed, no_wrap, is_wider, no_wider, pre_inside, post_i
 -- ── all types ──
 
 module _ (ws : List ℕ) (low high : ℕ) where
-  pub none_yet : {count : ℕ} → count ≡ span_count ws → Scanned ws low high count (record { family = count; width = 4294967295 })
+  pub none_yet : {count : ℕ} → count ≡ span_count ws → Scanned ws low high count (record { family = None; width = 4294967295 })
   unfolding best_from best least_of numbered
   none_yet {count} e =
       let z : span_count ws - count ≡ 0 = omega (arith, e) in
-      let q : best_from ws low high count ≡ none = ap (λ n. best (is_narrower ws) (keep (holds ws low high) (from count n))) z in
+      let q : best_from ws low high count ≡ None = ap (λ n. best (is_narrower ws) (keep (holds ws low high) (from count n))) z in
       record {
-        found = q ∙ sym (ap (λ b. cond b (some count) none) (le-ltb count (span_count ws) (omega (arith, e))));
+        found = sym (ap numbered q);
         least = sym (ap (least_of ws) q);
       }
 
@@ -136,10 +136,10 @@ module _ (ws : List ℕ) (low high : ℕ) {a : ℕ} {c : Candidate} (s : Scanned
   pub next_scanned : 0 < a → Scanned ws low high (a - 1 + 1) c
   next_scanned k = let z : a ≡ a - 1 + 1 = omega arith in subst (λ x. Scanned ws low high x c) z s
 
-  pub to_first : {count : ℕ} → count ≡ span_count ws → a ≤ 0 → best_from ws low high 0 ≡ numbered count c.family
-  to_first e k =
-      let z : 0 ≡ a = omega arith in
-      ap (best_from ws low high) z ∙ s.found ∙ ap (λ n. numbered n c.family) (sym e)
+  pub to_first : a ≤ 0 → c.family ≡ numbered (best_from ws low high 0)
+  to_first k =
+      let z : a ≡ 0 = omega arith in
+      s.found ∙ ap (λ n. numbered (best_from ws low high n)) z
 
 pub ruleset scanning = (none_yet, next_known, next_scanned, to_first)
 
@@ -215,39 +215,39 @@ module _ {ws : List ℕ} {start count t u : ℕ} (k : Asked ws start count t u) 
   second_is : q ≡ pre_in ws u
   second_is = pre_is ws u k.starts f
 
-  pub in_order : {o : Option ℕ} → p ≤ q → best_from ws p q 0 ≡ o → nearest_of ws t u ≡ o
+  pub in_order : {o : Option TypeId} → p ≤ q → o ≡ numbered (best_from ws p q 0) → o ≡ numbered (nearest_of ws t u)
   in_order h s =
       let a : t < span_count ws = omega (arith, k.first, k.counts) in
       let b : u < span_count ws = omega (arith, k.second, k.counts) in
-      scanned_all ws t u a b (omega (arith, first_is, second_is)) ∙ sym (ap₂ (λ x y. best_from ws x y 0) first_is second_is) ∙ s
+      s ∙ sym (ap numbered (scanned_all ws t u a b (omega (arith, first_is, second_is))
+      ∙ sym (ap₂ (λ x y. best_from ws x y 0) first_is second_is)))
 
-  pub out_of_order : {o : Option ℕ} → q < p → best_from ws q p 0 ≡ o → nearest_of ws t u ≡ o
+  pub out_of_order : {o : Option TypeId} → q < p → o ≡ numbered (best_from ws q p 0) → o ≡ numbered (nearest_of ws t u)
   out_of_order h s =
       let a : t < span_count ws = omega (arith, k.first, k.counts) in
       let b : u < span_count ws = omega (arith, k.second, k.counts) in
-      nearest_turned ws t u
+      s ∙ sym (ap numbered (nearest_turned ws t u
       ∙ scanned_all ws u t b a (omega (arith, first_is, second_is))
-      ∙ sym (ap₂ (λ x y. best_from ws x y 0) second_is first_is)
-      ∙ s
+      ∙ sym (ap₂ (λ x y. best_from ws x y 0) second_is first_is)))
 
 pub ruleset pairing = (first_inside, second_inside, asked_spans, asked_count, in_order, out_of_order)
 
 -- ── the answer ──
 
-unknown_none : (ws : List ℕ) (t u : ℕ) → ((x : ℕ) → holds_both ws t u x ≡ false) → NoFamily ≡ family_of (nearest_of ws t u)
-unfolding nearest_of family_of best
-unknown_none ws t u h = sym (ap (λ l. family_of (best (is_narrower ws) l)) (keep_none (holds_both ws t u) h (from 0 (span_count ws))))
+unknown_none : (ws : List ℕ) (t u : ℕ) → ((x : ℕ) → holds_both ws t u x ≡ false) → None ≡ numbered (nearest_of ws t u)
+unfolding nearest_of numbered best
+unknown_none ws t u h = sym (ap (λ l. numbered (best (is_narrower ws) l)) (keep_none (holds_both ws t u) h (from 0 (span_count ws))))
 
 module _ (ws : List ℕ) (t u : ℕ) (l : is_linked ws ≡ true) {start count : ℕ} (s : start ≡ get_or ws 9 0) (c : count ≡ get_or ws start 0) where
   count_is : count ≡ span_count ws
   count_is = (spans_inside ws l s c).1.0
 
-  pub unknown_first : count ≤ t → NoFamily ≡ family_of (nearest_of ws t u)
+  pub unknown_first : count ≤ t → None ≡ numbered (nearest_of ws t u)
   unfolding holds_both
   unknown_first h = unknown_none ws t u
       (λ x. ap (λ b. b && is_within ws u x) (not_within ws t x (λ w. omega (arith, count_is, w.first))))
 
-  pub unknown_second : count ≤ u → NoFamily ≡ family_of (nearest_of ws t u)
+  pub unknown_second : count ≤ u → None ≡ numbered (nearest_of ws t u)
   unfolding holds_both
   unknown_second h = unknown_none ws t u
       (λ x.
@@ -257,25 +257,23 @@ module _ (ws : List ℕ) (t u : ℕ) (l : is_linked ws ≡ true) {start count : 
   pub is_asked : t < count → u < count → Asked ws start count t u
   is_asked h i = let k = spans_inside ws l s c in record { starts = k.0; counts = count_is; room = k.1.1; first = h; second = i }
 
--- the number that was found, and that none was
-module _ {o : Option ℕ} {count r : ℕ} (e : o ≡ numbered count r) where
-  pub is_found : r < count → Found (type_number r) ≡ family_of o
-  unfolding numbered family_of
-  is_found h = sym (ap family_of (e ∙ ap (λ b. cond b (some r) none) (lt-ltb r count h)))
+pub ruleset answering = (header_inside, start_inside, unknown_first, unknown_second, is_asked)
 
-  pub none_found : count ≤ r → NoFamily ≡ family_of o
-  unfolding numbered family_of
-  none_found h = sym (ap family_of (e ∙ ap (λ b. cond b (some r) none) (le-ltb r count h)))
-
-pub ruleset answering = (header_inside, start_inside, unknown_first, unknown_second, is_asked, is_found, none_found)
+family_numbered : (o : Option ℕ) → Ok (numbered o) ≡ family_of o
+unfolding numbered family_of
+family_numbered None = refl
+family_numbered (Some f) = refl
 
 module _ (ws : List ℕ) (t u : ℕ) {l : Bool} (e : l ≡ is_linked ws) where
-  pub is_answer : l ≡ true → {r : NearestFamily} → r ≡ family_of (nearest_of ws t u) → r ≡ nearest_in ws t u
+  pub is_answer : l ≡ true → {r : Option TypeId} → r ≡ numbered (nearest_of ws t u) → Ok r ≡ nearest_in ws t u
   unfolding nearest_in
-  is_answer h k = k ∙ by_linked ws (family_of (nearest_of ws t u)) NotLinked e h
+  is_answer h k =
+      ap Ok k
+      ∙ family_numbered (nearest_of ws t u)
+      ∙ by_linked ws (family_of (nearest_of ws t u)) (Err NotLinked) e h
 
-  pub no_table : l ≡ false → NotLinked ≡ nearest_in ws t u
+  pub no_table : l ≡ false → Err NotLinked ≡ nearest_in ws t u
   unfolding nearest_in
-  no_table h = by_linked ws (family_of (nearest_of ws t u)) NotLinked e h
+  no_table h = by_linked ws (family_of (nearest_of ws t u)) (Err NotLinked) e h
 
 pub ruleset nearing = (asked, is_answer, no_table)

@@ -1,8 +1,9 @@
 -- The scan for the nearest family: from the last type down to the first, the best so far.
-use Rattle.std.specs.Prelude.{ℕ, ◌+◌, ◌-◌, ◌*◌, ◌≤◌, ◌<◌, ◌≡◌, List, Bool, cond, ◌&&◌, leb, ltb, length}
-use Rattle.std.proofs.Math.Option.{Option, none, some}
+use Rattle.std.specs.Prelude.{ℕ, ◌+◌, ◌-◌, ◌*◌, ◌≤◌, ◌<◌, ◌≡◌, List, Bool, ◌&&◌, leb, ltb, length, Option, None, Some}
 use Rattle.lists.specs.Lists.{from, keep}
 use Rattle.lists.specs.Best.{best}
+use Rattle.error.specs.declared.TypeId.{TypeId}
+use Rattle.error.specs.Answer.{type_number}
 use Rattle.descends.specs.Descends.{spans_start, span_count, pre_in, post_in}
 use Rattle.descends.specs.Sizes.{width_in}
 use Rattle.descends.specs.Nearest.{is_narrower}
@@ -22,9 +23,10 @@ pub record Asked (ws : List ℕ) (start count t u : ℕ) : Type 0 where
   pub first : t < count
   pub second : u < count
 
--- the type with this number of n, or none
-unfoldable pub numbered : ℕ → ℕ → Option ℕ
-numbered n a = cond (ltb a n) (some a) none
+-- a type by its number, or none
+unfoldable pub numbered : Option ℕ → Option TypeId
+numbered None = None
+numbered (Some a) = Some (type_number a)
 
 -- the span of a begins at low or before, and ends after high
 unfoldable pub holds : List ℕ → ℕ → ℕ → ℕ → Bool
@@ -36,10 +38,10 @@ best_from ws low high a = best (is_narrower ws) (keep (holds ws low high) (from 
 
 -- its width; where there is none, no width is more
 unfoldable pub least_of : List ℕ → Option ℕ → ℕ
-least_of ws none = 4294967295
-least_of ws (some f) = width_in ws f
+least_of ws None = 4294967295
+least_of ws (Some f) = width_in ws f
 
 -- c is the best among the types from a on
 pub record Scanned (ws : List ℕ) (low high a : ℕ) (c : Candidate) : Type 0 where
-  pub found : best_from ws low high a ≡ numbered (span_count ws) c.family
+  pub found : c.family ≡ numbered (best_from ws low high a)
   pub least : c.width ≡ least_of ws (best_from ws low high a)

@@ -3,18 +3,18 @@
 
 ghost use Rattle.std.specs.Prelude.{◌≡◌, true, ◌&&◌, leb, ltb, ◌+◌, ◌<◌};
 ghost use Rattle.descends.specs.Descends.{span_count, is_linked};
-ghost use Rattle.descends.specs.Nearest.{nearest_of, family_of, nearest_in};
+ghost use Rattle.descends.specs.Nearest.{nearest_of, nearest_in};
 ghost use Rattle.query_nearest.specs.Scan.{Spans, Asked, numbered, best_from, Scanned};
 
-use descends::NearestFamily;
+use descends::QueryError;
 use error::TypeId;
 use query::{is_linked, word_at};
 use region::at;
 
-// The nearest family so far, or the count of all types where there is none yet, and how wide its span is.
+// The nearest family so far, and how wide its span is.
 #[derive(Clone, Copy)]
 pub struct Candidate {
-    family: usize,
+    family: Option<TypeId>,
     width: usize,
 }
 
@@ -26,48 +26,47 @@ fn holds(pre: usize, post: usize, low: usize, high: usize) -> bool
 }
 
 // Type a takes the candidate's place if its span holds low and high and is no wider: of two as wide the lower number stays.
-fn better(table: &[u32], start: usize, low: usize, high: usize, a: usize, c: Candidate) -> Candidate
+#[tactic(auto, using(crate::proofs::ScanSteps::bettering))]
+fn better(table: &[u32], start: usize, low: usize, high: usize, a: u32, c: Candidate) -> Candidate
     requires spans { Spans table.now start low high }
     requires a_bound { a < span_count table.now }
     requires scanned { Scanned table.now low high (a + 1) c }
     ensures { Scanned table.now low high a result }
 {
-    let own = start + 1 + 3 * a;
+    let own = start + 1 + 3 * a as usize;
     let pre = word_at(table, own);
     let post = word_at(table, own + 1);
-    if holds(pre, post, low, high) {
-        if post - pre <= c.width {
-            return Candidate {
-                family: a,
-                width: post - pre,
-            };
-        }
+    if holds(pre, post, low, high) && post - pre <= c.width {
+        return Candidate {
+            family: Some(TypeId(a)),
+            width: post - pre,
+        };
     }
     c
 }
 
 // From the last type down. No span is wider than the first width.
-fn scan(table: &[u32], start: usize, count: usize, low: usize, high: usize) -> usize
+#[tactic(auto, using(crate::proofs::ScanSteps::scanning))]
+fn scan(table: &[u32], start: usize, count: u32, low: usize, high: usize) -> Option<TypeId>
     requires spans { Spans table.now start low high }
     requires count_value { count ≡ span_count table.now }
-    ensures { best_from table.now low high 0 ≡ numbered count result }
+    ensures { result ≡ numbered (best_from table.now low high 0) }
 {
-    let mut a = count;
     let mut c = Candidate {
-        family: count,
+        family: None,
         width: 4294967295,
     };
-    while 0 < a {
-        a -= 1;
+    for a in (0..count).rev() {
         c = better(table, start, low, high, a, c);
     }
     c.family
 }
 
 // Of two known types, by the numbers at which they are entered, the lower first.
-fn between(table: &[u32], start: usize, count: usize, t: u32, u: u32) -> usize
+#[tactic(auto, using(crate::proofs::ScanSteps::pairing))]
+fn between(table: &[u32], start: usize, count: u32, t: u32, u: u32) -> Option<TypeId>
     requires { Asked table.now start count t u }
-    ensures { nearest_of table.now t u ≡ numbered count result }
+    ensures { result ≡ numbered (nearest_of table.now t u) }
 {
     let first = word_at(table, start + 1 + 3 * t as usize);
     let second = word_at(table, start + 1 + 3 * u as usize);
@@ -78,31 +77,29 @@ fn between(table: &[u32], start: usize, count: usize, t: u32, u: u32) -> usize
 }
 
 // A number that is no type has none.
-fn answer(table: &[u32], t: u32, u: u32) -> NearestFamily
+#[tactic(auto, using(crate::proofs::ScanSteps::answering))]
+fn answer(table: &[u32], t: u32, u: u32) -> Option<TypeId>
     requires { is_linked table.now ≡ true }
-    ensures { result ≡ family_of (nearest_of table.now t u) }
+    ensures { result ≡ numbered (nearest_of table.now t u) }
 {
     let start = at(table, 9);
-    let count = word_at(table, start);
-    if count <= t as usize {
-        return NearestFamily::NoFamily;
+    let count = table[start];
+    if count <= t {
+        return None;
     }
-    if count <= u as usize {
-        return NearestFamily::NoFamily;
+    if count <= u {
+        return None;
     }
-    let family = between(table, start, count, t, u);
-    if family < count {
-        return NearestFamily::Found(TypeId(family as u32));
-    }
-    NearestFamily::NoFamily
+    between(table, start, count, t, u)
 }
 
 // The lowest-numbered type among those of least post minus pre whose span holds both t and u.
-pub fn nearest(table: &[u32], t: TypeId, u: TypeId) -> NearestFamily
+#[tactic(auto, using(crate::proofs::ScanSteps::nearing))]
+pub fn nearest(table: &[u32], t: TypeId, u: TypeId) -> Result<Option<TypeId>, QueryError>
     ensures { result ≡ nearest_in table.now t.0 u.0 }
 {
-    if is_linked(table) {
-        return answer(table, t.0, u.0);
+    if !is_linked(table) {
+        return Err(QueryError::NotLinked);
     }
-    NearestFamily::NotLinked
+    Ok(answer(table, t.0, u.0))
 }

@@ -2,7 +2,7 @@
 use Rattle.std.specs.Prelude.{ℕ, ◌+◌, ◌≤◌, ◌≡◌, List, Bool, true, ◌&&◌, eqb, leb}
 use Rattle.std.proofs.Math.Path.{refl, sym, ap, ap₂}
 use Rattle.std.proofs.Common.{◌∙◌}
-use Rattle.std.proofs.Math.Option.{some}
+use Rattle.std.specs.Prelude.{Some}
 use Rattle.std.proofs.Math.ListN.{length}
 use borrow.Author.Tests.{leb-true, le-leb, eqb-true, eq-eqb}
 use Rattle.lists.specs.Lists.{all_of}
@@ -48,7 +48,7 @@ pub record Frames {A : Type 0} (newest : ℕ) (title : A → ℕ) (enc : A → L
 module _ {A : Type 0} (newest : ℕ) (f : Reader A) (title : A → ℕ) (enc : A → List ℕ) (ok : A → Bool)
     (codes : (ws : List ℕ) → all_of is_word ws ≡ true → is_edition newest (edition_word ws) ≡ true →
     Codes ws f enc (λ a. eqb (edition_word ws) (title a) && ok a)) where
-  pub content_frames : (s : List ℕ) (a : A) → all_of is_byte s ≡ true → content f (framed newest s) ≡ some a → Frames newest title enc ok s a
+  pub content_frames : (s : List ℕ) (a : A) → all_of is_byte s ≡ true → content f (framed newest s) ≡ Some a → Frames newest title enc ok s a
   unfolding framable
   content_frames s a h e =
       content_inv f (framed newest s) a e λ ws e₁ e₂.
@@ -66,7 +66,7 @@ module _ {A : Type 0} (newest : ℕ) (f : Reader A) (title : A → ℕ) (enc : A
       }
 
   pub content_written : (a : A) → ok a ≡ true → framable newest (title a) (enc a) ≡ true →
-      content f (framed newest (written (titled (title a) (enc a)))) ≡ some a
+      content f (framed newest (written (titled (title a) (enc a)))) ≡ Some a
   content_written a o h =
       let x = framable_parts newest (title a) (enc a) h in
       let ws = titled (title a) (enc a) in

@@ -5,3 +5,4 @@ pub mod LoopLaws
 pub mod ReadLaws
 pub mod RecordSteps
 pub mod SizeLaws
+pub mod ListLaws

@@ -4,7 +4,7 @@ use Rattle.std.specs.Prelude.{◌≡◌, refl, Bool, true, false, cond, eqb, get
 use Rattle.std.proofs.Common.{sym, ◌∙◌, get_or-take, get_or-drop, ext_get_or, eqb-true, eq-eqb}
 use Rattle.std.proofs.Math.Path.{ap}
 use mathlib.Core.List.{List, [], ◌∷◌, ◌++◌, append-nil}
-use Rattle.std.proofs.Math.Option.{Option, none, some}
+use Rattle.std.specs.Prelude.{Option, None, Some}
 use native.Mathlib.Omega.{arith}
 use Rattle.std.proofs.Math.ListN.{length, length-append}
 use Rattle.std.proofs.Math.Seq.{slice, length-slice, drop-length, drop-append_seam}
@@ -96,23 +96,23 @@ encode_injective f enc ok a b l h k e =
 
 -- ── all the words ──
 
-pub whole_inv : {A : Type 0} (n : ℕ) (g : Got A) (a : A) → whole n g ≡ some a → g ≡ got a n
+pub whole_inv : {A : Type 0} (n : ℕ) (g : Got A) (a : A) → whole n g ≡ Some a → g ≡ got a n
 unfolding whole
 whole_inv n broken a e = let z : ◌≡◌ {A = ℕ} 0 1 = cc in absurd (omega arith)
 whole_inv n (got b p) a e = go (eqb p n) refl e
   where
-    go : (t : Bool) → eqb p n ≡ t → cond t (some b) none ≡ some a → got b p ≡ got a n
+    go : (t : Bool) → eqb p n ≡ t → cond t (Some b) None ≡ Some a → got b p ≡ got a n
     go true h k = let x : p ≡ n = eqb-true p n h in let y : b ≡ a = cc in cc
     go false h k = let z : ◌≡◌ {A = ℕ} 0 1 = cc in absurd (omega arith)
 
 -- the two words before the content, and the content
-pub content_inv : {A : Type 0} (f : Reader A) (frame : Option (List ℕ)) (a : A) {C : Type 0} → content f frame ≡ some a
-    → ((ws : List ℕ) → frame ≡ some ws → f ws 2 ≡ got a (length ws) → C) → C
+pub content_inv : {A : Type 0} (f : Reader A) (frame : Option (List ℕ)) (a : A) {C : Type 0} → content f frame ≡ Some a
+    → ((ws : List ℕ) → frame ≡ Some ws → f ws 2 ≡ got a (length ws) → C) → C
 unfolding content
-content_inv f none a e h = let z : ◌≡◌ {A = ℕ} 0 1 = cc in absurd (omega arith)
-content_inv f (some ws) a e h = h ws refl (whole_inv (length ws) (f ws 2) a e)
+content_inv f None a e h = let z : ◌≡◌ {A = ℕ} 0 1 = cc in absurd (omega arith)
+content_inv f (Some ws) a e h = h ws refl (whole_inv (length ws) (f ws 2) a e)
 
-pub content_is : {A : Type 0} (f : Reader A) (ws : List ℕ) (a : A) → f ws 2 ≡ got a (length ws) → content f (some ws) ≡ some a
+pub content_is : {A : Type 0} (f : Reader A) (ws : List ℕ) (a : A) → f ws 2 ≡ got a (length ws) → content f (Some ws) ≡ Some a
 unfolding content whole
 content_is f ws a e = rw (e, eq-eqb (length ws) (length ws) refl)
 

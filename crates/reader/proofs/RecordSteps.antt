@@ -9,8 +9,8 @@ use Rattle.std.proofs.Math.ListN.{length, get_or}
 use Rattle.blocks.specs.Blocks.{words}
 use Rattle.blocks.specs.Frame.{first_words}
 use Rattle.blocks.proofs.FirstWords.{length_first_words}
-use Rattle.reader.specs.declared.Step.{Step}
-use Rattle.reader.specs.declared.Step.TheVariants.{Next, Broken}
+use Rattle.std.specs.Prelude.{Option}
+use Rattle.std.specs.Prelude.{Some, None}
 use Rattle.reader.specs.Reader.{Got, broken, got, Reader, and_then, ◌>>=◌, pure, word, many, list_of}
 use Rattle.reader.specs.ReaderLaws.{word_at, word_end}
 use Rattle.reader.specs.Step.{step_of}
@@ -19,53 +19,53 @@ use Rattle.reader.specs.StepLaws.{word_read, arrived, stuck, make}
 -- ── words ──
 
 module _ (ws : List ℕ) where
-  words_fit : (k p : ℕ) → p + k ≤ length ws → Next (p + k) ≡ step_of (many k word ws p)
+  words_fit : (k p : ℕ) → p + k ≤ length ws → Some (p + k) ≡ step_of (many k word ws p)
   unfolding many step_of
-  words_fit zero p h = let e : p + 0 ≡ p = omega arith in ap Next e
+  words_fit zero p h = let e : p + 0 ≡ p = omega arith in ap Some e
   words_fit (suc k) p h =
       let e : p + suc k ≡ (p + 1) + k = omega arith in
-      rw (word_at ws p (omega arith)) (ap Next e ∙ words_fit k (p + 1) (omega arith) ∙ sym (make (many k word ws (p + 1)) (λ xs. get_or ws p 0 ∷ xs)))
+      rw (word_at ws p (omega arith)) (ap Some e ∙ words_fit k (p + 1) (omega arith) ∙ sym (make (many k word ws (p + 1)) (λ xs. get_or ws p 0 ∷ xs)))
 
-  words_stop : (k p : ℕ) → p ≤ length ws → length ws < p + k → Broken ≡ step_of (many k word ws p)
+  words_stop : (k p : ℕ) → p ≤ length ws → length ws < p + k → None ≡ step_of (many k word ws p)
   unfolding many step_of
   words_stop zero p l h = absurd (omega arith)
   words_stop (suc k) p l h = go (dec_lt p (length ws)) (λ m. words_stop k (p + 1) m (omega arith))
     where
-      go : Dec (p < length ws) → (p + 1 ≤ length ws → Broken ≡ step_of (many k word ws (p + 1))) →
-          Broken ≡ step_of (and_then (word ws p) (λ a q. and_then (many k word ws q) (λ xs r. got (a ∷ xs) r)))
+      go : Dec (p < length ws) → (p + 1 ≤ length ws → None ≡ step_of (many k word ws (p + 1))) →
+          None ≡ step_of (and_then (word ws p) (λ a q. and_then (many k word ws q) (λ xs r. got (a ∷ xs) r)))
       go (yes m) ih = rw (word_at ws p m) (ih (omega arith) ∙ sym (make (many k word ws (p + 1)) (λ xs. get_or ws p 0 ∷ xs)))
       go (no m) ih = rw (word_end ws p (omega arith))
 
   -- ── records of s words ──
 
   got_words : (s p : ℕ) → p + s ≤ length ws → {C : Type 0} → ((xs : List ℕ) → many s word ws p ≡ got xs (p + s) → C) → C
-  got_words s p h f = arrived (many s word ws p) {r = Next (p + s)} refl (words_fit s p h) f
+  got_words s p h f = arrived (many s word ws p) {r = Some (p + s)} refl (words_fit s p h) f
 
-  records_fit : (s c p : ℕ) → p + c * s ≤ length ws → Next (p + c * s) ≡ step_of (many c (many s word) ws p)
+  records_fit : (s c p : ℕ) → p + c * s ≤ length ws → Some (p + c * s) ≡ step_of (many c (many s word) ws p)
   unfolding many step_of
-  records_fit s zero p h = let e : p + 0 * s ≡ p = omega arith in ap Next e
+  records_fit s zero p h = let e : p + 0 * s ≡ p = omega arith in ap Some e
   records_fit s (suc c) p h =
       let e : p + suc c * s ≡ (p + s) + c * s = omega arith in
-      got_words s p (omega arith) λ xs g. rw g (ap Next e ∙ records_fit s c (p + s) (omega arith) ∙ sym (make (many c (many s word) ws (p + s)) (λ rest. xs ∷ rest)))
+      got_words s p (omega arith) λ xs g. rw g (ap Some e ∙ records_fit s c (p + s) (omega arith) ∙ sym (make (many c (many s word) ws (p + s)) (λ rest. xs ∷ rest)))
 
-  records_stop : (s c p : ℕ) → p ≤ length ws → length ws < p + c * s → Broken ≡ step_of (many c (many s word) ws p)
+  records_stop : (s c p : ℕ) → p ≤ length ws → length ws < p + c * s → None ≡ step_of (many c (many s word) ws p)
   unfolding many step_of
   records_stop s zero p l h = absurd (omega arith)
   records_stop s (suc c) p l h = go (dec_lt (length ws) (p + s)) (λ m. records_stop s c (p + s) m (omega arith))
     where
-      go : Dec (length ws < p + s) → (p + s ≤ length ws → Broken ≡ step_of (many c (many s word) ws (p + s))) →
-          Broken ≡ step_of (and_then (many s word ws p) (λ a q. and_then (many c (many s word) ws q) (λ xs r. got (a ∷ xs) r)))
+      go : Dec (length ws < p + s) → (p + s ≤ length ws → None ≡ step_of (many c (many s word) ws (p + s))) →
+          None ≡ step_of (and_then (many s word ws p) (λ a q. and_then (many c (many s word) ws q) (λ xs r. got (a ∷ xs) r)))
       go (yes m) ih = rw (stuck (many s word ws p) refl (words_stop s p l m))
       go (no m) ih = got_words s p (omega arith) λ xs g. rw g (ih (omega arith) ∙ sym (make (many c (many s word) ws (p + s)) (λ rest. xs ∷ rest)))
 
 -- ── a list of records ──
 
 module _ (bytes : List ℕ) (n at s : ℕ) {w : ℕ} where
-  pub records_next : at < n → w ≡ get_or (words bytes) at 0 → w * s ≤ n - (at + 1) → Next (at + 1 + w * s) ≡ step_of (list_of (many s word) (first_words bytes n) at)
+  pub records_next : at < n → w ≡ get_or (words bytes) at 0 → w * s ≤ n - (at + 1) → Some (at + 1 + w * s) ≡ step_of (list_of (many s word) (first_words bytes n) at)
   unfolding list_of
   records_next h e k = rw (word_read bytes n at h e) (records_fit (first_words bytes n) s w (at + 1) (omega (arith, length_first_words bytes n)))
 
-  pub records_short : at < n → w ≡ get_or (words bytes) at 0 → n - (at + 1) < w * s → Broken ≡ step_of (list_of (many s word) (first_words bytes n) at)
+  pub records_short : at < n → w ≡ get_or (words bytes) at 0 → n - (at + 1) < w * s → None ≡ step_of (list_of (many s word) (first_words bytes n) at)
   unfolding list_of
   records_short h e k =
       rw (word_read bytes n at h e) (records_stop (first_words bytes n) s w (at + 1) (omega (arith, length_first_words bytes n)) (omega (arith, length_first_words bytes n)))
@@ -100,7 +100,7 @@ module _ {A B : Type 0} (f : Reader A) (g : Reader B) (ws : List ℕ) (alike : (
       go broken = refl
       go (got c q) = many_alike c q
 
-pub sized_list : {A : Type 0} {f : Reader A} {s : ℕ} → Sized f s → (ws : List ℕ) (p : ℕ) {r : Step} → r ≡ step_of (list_of (many s word) ws p) → r ≡ step_of (list_of f ws p)
+pub sized_list : {A : Type 0} {f : Reader A} {s : ℕ} → Sized f s → (ws : List ℕ) (p : ℕ) {r : Option ℕ} → r ≡ step_of (list_of (many s word) ws p) → r ≡ step_of (list_of f ws p)
 sized_list {A} {f} {s} z ws p e = e ∙ sym (lists_alike f (many s word) ws (z.ends ws) p)
 
 -- a word and then k words
@@ -126,10 +126,10 @@ sized_word = record { ends = λ ws p. sym (make (word ws p) (λ a. a ∷ [])) }
 
 -- a value of s words, where there are as many
 module _ {A : Type 0} {f : Reader A} {s : ℕ} (z : Sized f s) (bytes : List ℕ) (n at : ℕ) where
-  pub sized_fit : (q : ℕ) → at + s ≤ n → at + s ≡ q → Next q ≡ step_of (f (first_words bytes n) at)
+  pub sized_fit : (q : ℕ) → at + s ≤ n → at + s ≡ q → Some q ≡ step_of (f (first_words bytes n) at)
   sized_fit q h e =
-      ap Next (sym e) ∙ words_fit (first_words bytes n) s at (omega (arith, length_first_words bytes n)) ∙ sym (z.ends (first_words bytes n) at)
+      ap Some (sym e) ∙ words_fit (first_words bytes n) s at (omega (arith, length_first_words bytes n)) ∙ sym (z.ends (first_words bytes n) at)
 
-  pub sized_short : at ≤ n → n < at + s → Broken ≡ step_of (f (first_words bytes n) at)
+  pub sized_short : at ≤ n → n < at + s → None ≡ step_of (f (first_words bytes n) at)
   sized_short h l =
       words_stop (first_words bytes n) s at (omega (arith, length_first_words bytes n)) (omega (arith, length_first_words bytes n)) ∙ sym (z.ends (first_words bytes n) at)

@@ -3,14 +3,28 @@ use Rattle.std.specs.Prelude.{ℕ, zero, suc, ◌/◌, ◌%◌, List, Bool, cond
 use Rattle.lists.specs.Lists.{all_of, concat_map}
 use Rattle.blocks.specs.Blocks.{bytes_of}
 use Rattle.utf8.specs.Utf8.{Place, next, after, done}
-use Rattle.reader.specs.declared.Step.{Step}
-use Rattle.reader.specs.declared.Step.TheVariants.{Next, Broken}
+use Rattle.std.specs.Prelude.{Option, option_and_then}
+use Rattle.std.specs.Prelude.{Some, None}
 use Rattle.reader.specs.Reader.{Got, broken, got, Reader, ◌>>=◌, pure, fail, word, many}
 use Rattle.reader.specs.Text.{words_for}
 
-unfoldable pub step_of : {A : Type 0} → Got A → Step
-step_of broken = Broken
-step_of (got a p) = Next p
+unfoldable pub step_of : {A : Type 0} → Got A → Option ℕ
+step_of broken = None
+step_of (got a p) = Some p
+
+-- where n members end, each as `past` says
+unfoldable pub many_past : ℕ → (ℕ → Option ℕ) → ℕ → Option ℕ
+many_past zero past p = Some p
+many_past (suc n) past p = option_and_then (many_past n past) (past p)
+
+-- where they end whose count was read
+abbrev pub counted_past : (ℕ → Option ℕ) → Got ℕ → Option ℕ
+counted_past past broken = None
+counted_past past (got n p) = many_past n past p
+
+-- where a list ends: a count, and as many members
+unfoldable pub list_past : (ℕ → Option ℕ) → List ℕ → ℕ → Option ℕ
+list_past past ws at = counted_past past (word ws at)
 
 -- m bytes that go on from a place to the end of a character, and zeros after them
 unfoldable pub good_rest : Place → ℕ → List ℕ → Bool

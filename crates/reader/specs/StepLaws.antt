@@ -5,20 +5,20 @@ use Rattle.std.proofs.Common.{ap, ◌∙◌, arith, lt-ltb, le-ltb}
 use Rattle.blocks.specs.Blocks.{words}
 use Rattle.blocks.specs.Frame.{first_words}
 use Rattle.blocks.proofs.FirstWords.{length_first_words, first_words_at}
-use Rattle.reader.specs.declared.Step.{Step}
-use Rattle.reader.specs.declared.Step.TheVariants.{Next, Broken}
+use Rattle.std.specs.Prelude.{Option}
+use Rattle.std.specs.Prelude.{Some, None}
 use Rattle.reader.specs.Reader.{Got, broken, got, and_then, word, code_below}
 use Rattle.reader.specs.Step.{step_of}
 use Rattle.reader.specs.ReaderLaws.{word_at, word_end}
 
 -- ── an answer ──
 
-pub arrived : {A : Type 0} (g : Got A) {r : Step} {q : ℕ} {C : Type 0} → r ≡ Next q → r ≡ step_of g → ((a : A) → g ≡ got a q → C) → C
+pub arrived : {A : Type 0} (g : Got A) {r : Option ℕ} {q : ℕ} {C : Type 0} → r ≡ Some q → r ≡ step_of g → ((a : A) → g ≡ got a q → C) → C
 unfolding step_of
 arrived broken e k f = let z : ◌≡◌ {A = ℕ} 0 1 = cc in absurd (omega arith)
 arrived (got a p) e k f = f a (ap (got a) (cc))
 
-pub stuck : {A : Type 0} (g : Got A) {r : Step} → r ≡ Broken → r ≡ step_of g → g ≡ broken
+pub stuck : {A : Type 0} (g : Got A) {r : Option ℕ} → r ≡ None → r ≡ step_of g → g ≡ broken
 unfolding step_of
 stuck broken e k = refl
 stuck (got a p) e k = let z : ◌≡◌ {A = ℕ} 0 1 = cc in absurd (omega arith)
@@ -30,10 +30,10 @@ make broken f = refl
 make (got a p) f = refl
 
 -- a part that was passed, and then the rest
-pub then_next : {A B : Type 0} (g : Got A) (k : A → ℕ → Got B) {r x : Step} {q : ℕ} → r ≡ Next q → r ≡ step_of g → ((a : A) → x ≡ step_of (k a q)) → x ≡ step_of (and_then g k)
+pub then_next : {A B : Type 0} (g : Got A) (k : A → ℕ → Got B) {r x : Option ℕ} {q : ℕ} → r ≡ Some q → r ≡ step_of g → ((a : A) → x ≡ step_of (k a q)) → x ≡ step_of (and_then g k)
 then_next g k e h f = arrived g e h λ a i. f a ∙ sym (ap (λ y. step_of (and_then y k)) i)
 
-pub then_stop : {A B : Type 0} (g : Got A) (k : A → ℕ → Got B) {r : Step} → r ≡ Broken → r ≡ step_of g → Broken ≡ step_of (and_then g k)
+pub then_stop : {A B : Type 0} (g : Got A) (k : A → ℕ → Got B) {r : Option ℕ} → r ≡ None → r ≡ step_of g → None ≡ step_of (and_then g k)
 unfolding step_of
 then_stop g k e h = sym (ap (λ y. step_of (and_then y k)) (stuck g e h))
 
@@ -46,11 +46,11 @@ module _ (b : List ℕ) (n at : ℕ) where
   pub word_none : n ≤ at → word (first_words b n) at ≡ broken
   word_none h = word_end (first_words b n) at (omega (arith, length_first_words b n))
 
-  pub word_next : at < n → Next (at + 1) ≡ step_of (word (first_words b n) at)
+  pub word_next : at < n → Some (at + 1) ≡ step_of (word (first_words b n) at)
   unfolding step_of
   word_next h = sym (ap step_of (word_read h refl))
 
-  pub word_stop : n ≤ at → Broken ≡ step_of (word (first_words b n) at)
+  pub word_stop : n ≤ at → None ≡ step_of (word (first_words b n) at)
   unfolding step_of
   word_stop h = sym (ap step_of (word_none h))
 

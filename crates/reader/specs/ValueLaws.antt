@@ -4,7 +4,7 @@ use Rattle.std.proofs.Common.{sym, ap, subst, ◌∙◌, arith}
 use Rattle.std.proofs.Math.Decide.{dec_lt}
 use Rattle.blocks.specs.Blocks.{words}
 use Rattle.blocks.specs.Frame.{first_words}
-use Rattle.reader.specs.declared.Step.TheVariants.{Next}
+use Rattle.std.specs.Prelude.{Some}
 use Rattle.reader.specs.Reader.{Got, broken, got, Reader, and_then, many, list_of}
 use Rattle.reader.specs.ReaderLaws.{then_inv}
 use Rattle.reader.specs.Step.{step_of}
@@ -29,7 +29,7 @@ unfolding value_of
 value_got d e = ap (value_of d) e
 
 -- what was passed was read
-pub step_whole : {A : Type 0} (g : Got A) {q : ℕ} → Next q ≡ step_of g → Whole g
+pub step_whole : {A : Type 0} (g : Got A) {q : ℕ} → Some q ≡ step_of g → Whole g
 step_whole g e = arrived g refl e λ a h. got_whole h
 
 -- ── a list ──

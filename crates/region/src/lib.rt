@@ -13,7 +13,7 @@ pub fn widen(x: u32) -> usize
 pub fn least(a: usize, b: usize) -> usize
     ensures { result ≡ min a b }
 {
-    if a < b { a } else { b }
+    a.min(b)
 }
 
 // The word at a place.
@@ -46,10 +46,8 @@ pub fn count_up(work: &mut [u32], a: usize, n: usize)
     ensures frame { Frame (Off a (a + n)) work.old work.new }
     ensures by_index { (p : ℕ) → p < n → word_at work.new a p ≡ p }
 {
-    let mut i = 0;
-    while i < n {
+    for i in 0..n {
         put(work, a + i, i);
-        i += 1;
     }
 }
 
@@ -59,9 +57,7 @@ pub fn fill(work: &mut [u32], a: usize, n: usize, x: usize)
     ensures frame { Frame (Off a (a + n)) work.old work.new }
     ensures by_index { (p : ℕ) → p < n → word_at work.new a p ≡ x }
 {
-    let mut i = 0;
-    while i < n {
+    for i in 0..n {
         put(work, a + i, x);
-        i += 1;
     }
 }

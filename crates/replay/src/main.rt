@@ -25,82 +25,43 @@ struct Case {
     linked: usize,
 }
 
-#[derive(Clone, Copy)]
-enum Replayed {
-    Same,
-    Different,
-    Missing,
-}
-
-fn le(a: u8, b: u8, c: u8, d: u8) -> u32 {
-    (a as u32) + 256 * ((b as u32) + 256 * ((c as u32) + 256 * (d as u32)))
-}
-
 // The first n bytes of buf, from the file; false where there are not as many.
 fn read_part(file: &mut impl Read, buf: &mut [u8], n: usize) -> bool {
-    if n <= buf.len() {
-        return read_full(file, &mut buf[..n]) == n;
+    match buf.get_mut(..n) {
+        Some(part) => read_full(file, part) == n,
+        None => false,
     }
-    false
 }
 
 fn padded(n: usize) -> usize {
-    if n < 65536 {
-        return (n + 3) / 4 * 4;
-    }
-    n
+    if n < 65536 { (n + 3) / 4 * 4 } else { n }
 }
 
 fn read_answer(h: &[u8; 44]) -> SixNumbers {
     SixNumbers {
-        kind: le(h[16], h[17], h[18], h[19]),
-        word: le(h[20], h[21], h[22], h[23]),
-        number: le(h[24], h[25], h[26], h[27]),
-        second: le(h[28], h[29], h[30], h[31]),
-        func: le(h[32], h[33], h[34], h[35]),
-        pc: le(h[36], h[37], h[38], h[39]),
+        kind: u32::from_le_bytes([h[16], h[17], h[18], h[19]]),
+        word: u32::from_le_bytes([h[20], h[21], h[22], h[23]]),
+        number: u32::from_le_bytes([h[24], h[25], h[26], h[27]]),
+        second: u32::from_le_bytes([h[28], h[29], h[30], h[31]]),
+        func: u32::from_le_bytes([h[32], h[33], h[34], h[35]]),
+        pc: u32::from_le_bytes([h[36], h[37], h[38], h[39]]),
     }
 }
 
 fn read_case(h: &[u8; 44]) -> Case {
-    let answer = read_answer(h);
     Case {
-        sheet: le(h[0], h[1], h[2], h[3]) as usize,
-        hosts: le(h[4], h[5], h[6], h[7]) as usize,
-        table: le(h[8], h[9], h[10], h[11]) as usize,
-        work: le(h[12], h[13], h[14], h[15]) as usize,
-        answer: answer,
-        linked: le(h[40], h[41], h[42], h[43]) as usize,
+        sheet: u32::from_le_bytes([h[0], h[1], h[2], h[3]]) as usize,
+        hosts: u32::from_le_bytes([h[4], h[5], h[6], h[7]]) as usize,
+        table: u32::from_le_bytes([h[8], h[9], h[10], h[11]]) as usize,
+        work: u32::from_le_bytes([h[12], h[13], h[14], h[15]]) as usize,
+        answer: read_answer(h),
+        linked: u32::from_le_bytes([h[40], h[41], h[42], h[43]]) as usize,
     }
-}
-
-fn are_same(a: SixNumbers, b: SixNumbers) -> bool {
-    if a.kind != b.kind {
-        return false;
-    }
-    if a.word != b.word {
-        return false;
-    }
-    if a.number != b.number {
-        return false;
-    }
-    if a.second != b.second {
-        return false;
-    }
-    if a.func != b.func {
-        return false;
-    }
-    a.pc == b.pc
 }
 
 // Every word from that place on is x.
 fn is_filled(words: &[u32], from: usize, x: u32) -> bool {
-    for i in from..words.len() {
-        if words[i] != x {
-            return false;
-        }
-    }
-    true
+    words.iter().skip(from).all(|w| *w == x)
 }
 
 // Word i is the one that is stored.
@@ -114,38 +75,26 @@ fn is_stored(words: &[u32], linked: &[u8], i: usize) -> bool {
     if linked.len() < 4 * i + 4 {
         return false;
     }
-    words[i]
-        == le(
-            linked[4 * i],
-            linked[4 * i + 1],
-            linked[4 * i + 2],
-            linked[4 * i + 3],
-        )
+    let p = 4 * i;
+    words[i] == u32::from_le_bytes([linked[p], linked[p + 1], linked[p + 2], linked[p + 3]])
 }
 
 // The first n words are the stored ones.
 fn are_stored(words: &[u32], linked: &[u8], n: usize) -> bool {
-    for i in 0..n {
-        if !is_stored(words, linked, i) {
-            return false;
-        }
-    }
-    true
+    (0..n).all(|i| is_stored(words, linked, i))
 }
 
 // How many words of the table an answer says are written.
 fn table_words(answer: SixNumbers) -> usize {
     if answer.kind == 0 {
-        return answer.number as usize;
+        answer.number as usize
+    } else {
+        0
     }
-    0
 }
 
 fn is_table(table: &[u32], linked: &[u8], n: usize) -> bool {
-    if are_stored(table, linked, n) {
-        return is_filled(table, n, TABLE_BEFORE);
-    }
-    false
+    are_stored(table, linked, n) && is_filled(table, n, TABLE_BEFORE)
 }
 
 // Work is as before where no rule was tried, and zero after the rules.
@@ -157,14 +106,9 @@ fn is_work(work: &[u32], kind: u32) -> bool {
 }
 
 fn is_left(table: &[u32], work: &[u32], linked: &[u8], c: Case) -> bool {
-    let answer = c.answer;
-    if table_words(answer) != c.linked {
-        return false;
-    }
-    if is_table(table, linked, c.linked) {
-        return is_work(work, answer.kind);
-    }
-    false
+    table_words(c.answer) == c.linked
+        && is_table(table, linked, c.linked)
+        && is_work(work, c.answer.kind)
 }
 
 fn is_loaded(
@@ -175,60 +119,10 @@ fn is_loaded(
     work: &mut [u32],
     c: Case,
 ) -> bool {
-    let found = numbers(load(sheet, hosts, table, work));
-    let answer = c.answer;
-    if are_same(found, answer) {
-        return is_left(table, work, linked, c);
-    }
-    false
+    numbers(load(sheet, hosts, table, work)) == c.answer && is_left(table, work, linked, c)
 }
 
 // Each slice is as long as the case says.
-fn is_loaded_in_work(
-    sheet: &[u8],
-    hosts: &[u8],
-    linked: &[u8],
-    table: &mut [u32],
-    work: &mut [u32],
-    c: Case,
-) -> bool {
-    let n = c.work;
-    if n <= work.len() {
-        return is_loaded(sheet, hosts, linked, table, &mut work[..n], c);
-    }
-    false
-}
-
-fn is_loaded_in_table(
-    sheet: &[u8],
-    hosts: &[u8],
-    linked: &[u8],
-    table: &mut [u32],
-    work: &mut [u32],
-    c: Case,
-) -> bool {
-    let n = c.table;
-    if n <= table.len() {
-        return is_loaded_in_work(sheet, hosts, linked, &mut table[..n], work, c);
-    }
-    false
-}
-
-fn is_loaded_of_hosts(
-    sheet: &[u8],
-    hosts: &[u8],
-    linked: &[u8],
-    table: &mut [u32],
-    work: &mut [u32],
-    c: Case,
-) -> bool {
-    let n = c.hosts;
-    if n <= hosts.len() {
-        return is_loaded_in_table(sheet, &hosts[..n], linked, table, work, c);
-    }
-    false
-}
-
 fn is_same(
     sheet: &[u8],
     hosts: &[u8],
@@ -237,11 +131,13 @@ fn is_same(
     work: &mut [u32],
     c: Case,
 ) -> bool {
-    let n = c.sheet;
-    if n <= sheet.len() {
-        return is_loaded_of_hosts(&sheet[..n], hosts, linked, table, work, c);
+    let (Some(sheet), Some(hosts)) = (sheet.get(..c.sheet), hosts.get(..c.hosts)) else {
+        return false;
+    };
+    match (table.get_mut(..c.table), work.get_mut(..c.work)) {
+        (Some(table), Some(work)) => is_loaded(sheet, hosts, linked, table, work, c),
+        _ => false,
     }
-    false
 }
 
 // 64 blocks hold 8,128 words, for which 65,088 words are enough; stored cases have up to 100 more.
@@ -251,61 +147,45 @@ fn is_same_in(sheet: &[u8; 65536], hosts: &[u8; 65536], linked: &[u8; 262144], c
     is_same(sheet, hosts, linked, &mut table, &mut work, c)
 }
 
-// A case whose lengths are known; its bytes and its table come next.
-fn replay_case(file: &mut impl Read, c: Case) -> Replayed {
+// Is a case whose lengths are known the same? Its bytes and its table come next; none where they are not there.
+fn replay_case(file: &mut impl Read, c: Case) -> Option<bool> {
     let mut sheet = [0u8; 65536];
     let mut hosts = [0u8; 65536];
     let mut linked = [0u8; 262144];
     if !read_part(file, &mut sheet, padded(c.sheet)) {
-        return Replayed::Missing;
+        return None;
     }
     if !read_part(file, &mut hosts, padded(c.hosts)) {
-        return Replayed::Missing;
+        return None;
     }
     if 65536 < c.linked {
-        return Replayed::Missing;
+        return None;
     }
     if !read_part(file, &mut linked, 4 * c.linked) {
-        return Replayed::Missing;
+        return None;
     }
-    if is_same_in(&sheet, &hosts, &linked, c) {
-        Replayed::Same
-    } else {
-        Replayed::Different
-    }
+    Some(is_same_in(&sheet, &hosts, &linked, c))
 }
 
-fn replay_next(file: &mut impl Read) -> Replayed {
+fn replay_next(file: &mut impl Read) -> Option<bool> {
     let mut head = [0u8; 44];
-    if read_full(file, &mut head) == 44 {
-        return replay_case(file, read_case(&head));
+    if read_full(file, &mut head) != 44 {
+        return None;
     }
-    Replayed::Missing
-}
-
-// 0 where case i is the same, 1 where it differs, 2 where the file ends.
-fn replay_one(rt: &impl Print, file: &mut impl Read, i: u32) -> io::Result<u32> {
-    match replay_next(file) {
-        Replayed::Same => Ok(0),
-        Replayed::Different => {
-            println!(rt; "different: case {i}")?;
-            Ok(1)
-        }
-        Replayed::Missing => {
-            println!(rt; "missing: case {i}")?;
-            Ok(2)
-        }
-    }
+    replay_case(file, read_case(&head))
 }
 
 fn replay_all(rt: &impl Print, file: &mut impl Read, count: u32) -> io::Result<()> {
     let mut different: u32 = 0;
     for i in 0..count {
-        let d = replay_one(rt, file, i)?;
-        if 1 < d {
-            return Ok(());
+        match replay_next(file) {
+            Some(true) => {}
+            Some(false) => {
+                println!(rt; "different: case {i}")?;
+                different += 1;
+            }
+            None => return println!(rt; "missing: case {i}"),
         }
-        different += d;
     }
     println!(rt; "cases {count}")?;
     println!(rt; "different {different}")
@@ -314,12 +194,14 @@ fn replay_all(rt: &impl Print, file: &mut impl Read, count: u32) -> io::Result<(
 // The file begins with its format, 1, and the count of cases.
 fn replay_file(rt: &impl Print, file: &mut impl Read) -> io::Result<()> {
     let mut head = [0u8; 8];
-    if read_full(file, &mut head) == 8 {
-        if le(head[0], head[1], head[2], head[3]) == 1 {
-            return replay_all(rt, file, le(head[4], head[5], head[6], head[7]));
-        }
+    if read_full(file, &mut head) != 8 {
+        return Ok(());
     }
-    Ok(())
+    if u32::from_le_bytes([head[0], head[1], head[2], head[3]]) != 1 {
+        return Ok(());
+    }
+    let count = u32::from_le_bytes([head[4], head[5], head[6], head[7]]);
+    replay_all(rt, file, count)
 }
 
 fn replay_named(rt: HostRuntime, name: &[u8]) -> io::Result<()> {

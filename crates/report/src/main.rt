@@ -8,7 +8,6 @@ ghost use Rattle.sheet_report.specs.Sums.{SpareBoth, SparesOne};
 
 use console::{argument, print_numbers, read_file};
 use error::numbers::numbers;
-use exact::Total;
 use report_lines::Totals;
 use sheet_report::{add_report, no_totals, report_sheet};
 use std::env::Env;
@@ -17,10 +16,7 @@ use std::io;
 
 // The pairs in the first so many words.
 fn print_lines(rt: &impl Print, lines: &[u32; 4064], words: usize) -> io::Result<()> {
-    for i in 0..2032 {
-        if words <= 2 * i {
-            break;
-        }
+    for i in 0..2032.min(words.div_ceil(2)) {
         println!(rt; "{} {}", lines[2 * i], lines[2 * i + 1])?;
     }
     Ok(())
@@ -34,8 +30,7 @@ fn report_bytes(rt: &impl Print, sheet: &[u8], hosts: &[u8], t: Totals) -> io::R
 {
     let mut lines = [0u32; 4064];
     let r = report_sheet(sheet, hosts, &mut lines);
-    let answer = r.answer;
-    print_numbers(rt, numbers(answer))?;
+    print_numbers(rt, numbers(r.answer))?;
     print_lines(rt, &lines, r.words)?;
     Ok(add_report(t, r))
 }
@@ -67,19 +62,9 @@ fn report_files(rt: &(impl Env + Files + Print), hosts: &[u8]) -> io::Result<Tot
     Ok(t)
 }
 
-fn print_total(rt: &impl Print, t: Total) -> io::Result<()> {
-    if t.high == 0 {
-        return print!(rt; "{}", t.low);
-    }
-    print!(rt; "{}{:018}", t.high, t.low % 1000000000000000000)
-}
-
 fn main(rt: HostRuntime) -> io::Result<()> {
     let mut list = [0u8; 8193];
     let m = read_file(&rt, b"hosts", &mut list);
     let t = report_files(&rt, &list[..m])?;
-    print_total(&rt, t.structs)?;
-    print!(rt; " ")?;
-    print_total(&rt, t.sizes)?;
-    println!(rt; "")
+    println!(rt; "{} {}", t.structs, t.sizes)
 }

@@ -1,8 +1,7 @@
 -- What the report says, on types given by hand; a refused sheet declares nothing that counts.
-use Rattle.std.specs.Prelude.{ℕ, ◌≡◌, refl, List, [], ◌∷◌}
+use Rattle.std.specs.Prelude.{ℕ, ◌≡◌, refl, List, [], ◌∷◌, Err}
 use Rattle.std.proofs.Common.{ap}
 use Rattle.error.specs.declared.LoadError.{LoadError}
-use Rattle.error.specs.declared.Loaded.TheVariants.{Refused}
 use Rattle.sheet.specs.Module.{TypeDef, Module, no_module}
 use Rattle.sheet.specs.Editions.{most_on_chain}
 use Rattle.sheet.specs.Decode.{decode}
@@ -11,7 +10,7 @@ use Rattle.families.proofs.Cases.{child, sample, computed}
 use Rattle.report_lines.specs.Report.{judged, module_or, counting, counted_module}
 use Rattle.report_lines.specs.Report.{family_line, family_lines, structs_total, sizes_total, totals}
 
-pub refused_none : (hosts sheet : List ℕ) (e : LoadError) → judged hosts sheet ≡ Refused e → counted_module hosts sheet ≡ no_module
+pub refused_none : (hosts sheet : List ℕ) (e : LoadError) → judged hosts sheet ≡ Err e → counted_module hosts sheet ≡ no_module
 unfolding counted_module counting
 refused_none hosts sheet e q = ap (λ r. counting r (module_or (decode sheet))) q
 

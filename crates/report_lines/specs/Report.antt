@@ -1,9 +1,7 @@
 -- The report over sheets: lines of numbers, and exact totals.
-use Rattle.std.specs.Prelude.{ℕ, List, [], ◌∷◌, ◌++◌, map}
-use Rattle.std.proofs.Math.Option.{Option, none, some}
+use Rattle.std.specs.Prelude.{ℕ, List, [], ◌∷◌, ◌++◌, map, Option, None, Some, Err, Ok}
 use Rattle.lists.specs.Lists.{concat_map, sum}
-use Rattle.error.specs.declared.Loaded.{Loaded}
-use Rattle.error.specs.declared.Loaded.TheVariants.{Accepted, Refused}
+use Rattle.error.specs.Answer.{Loaded}
 use Rattle.error.specs.Answer.{numbers}
 use Rattle.sheet.specs.Module.{Module, no_module}
 use Rattle.sheet.specs.Decode.{decode}
@@ -20,13 +18,13 @@ unfoldable pub judged : List ℕ → List ℕ → Loaded
 judged hosts sheet = load sheet hosts program_room program_room
 
 unfoldable pub module_or : Option Module → Module
-module_or none = no_module
-module_or (some m) = m
+module_or None = no_module
+module_or (Some m) = m
 
 -- the module of an accepted sheet; a refused one declares nothing
 unfoldable pub counting : Loaded → Module → Module
-counting (Accepted l) m = m
-counting (Refused e) m = no_module
+counting (Ok l) m = m
+counting (Err e) m = no_module
 
 unfoldable pub counted_module : List ℕ → List ℕ → Module
 counted_module hosts sheet = counting (judged hosts sheet) (module_or (decode sheet))

@@ -13,9 +13,9 @@ use Rattle.blocks.specs.Blocks.{words}
 use Rattle.blocks.specs.Frame.{first_words}
 use Rattle.error.specs.declared.LoadErrorKind.{LoadErrorKind}
 use Rattle.error.specs.declared.LoadErrorKind.TheVariants.{BadSignature}
-use Rattle.error.specs.declared.Verdict.{Verdict}
-use Rattle.error.specs.declared.Verdict.TheVariants.{Holds, Broken}
-use Rattle.error.specs.declared.Judged.{Judged}
+use Rattle.error.specs.Verdict.{Verdict}
+use Rattle.std.specs.Prelude.{Err, Ok}
+use Rattle.error.specs.Verdict.{Judged}
 use Rattle.error.specs.Answer.{unless, in_module}
 use Rattle.error.specs.Verdict.{verdict_of, judged_of, placed}
 use Rattle.error.specs.VerdictLaws.{verdict_then, verdict_stop, placed_faults_lem}
@@ -77,7 +77,7 @@ module _ (b : List ℕ) (n at : ℕ) (h : Whole (func_type (first_words b n) at)
           ∙ ap (λ k. verdict_of (unless (leb k 1) BadSignature ++ (concat_map (value_faults m) ps ++ concat_map (value_faults m) rs))) zc
           ∙ ap₂ (λ x y. verdict_of (unless (leb c 1) BadSignature ++ (concat_map (value_faults m) x ++ concat_map (value_faults m) y))) (sym (value_got [] e₁)) (sym (value_got [] f₂))
 
-      pub sig_many : 1 < c → Broken BadSignature ≡ verdict_of (type_faults m (value_of coroutine (func_type (first_words b n) at)))
+      pub sig_many : 1 < c → Err BadSignature ≡ verdict_of (type_faults m (value_of coroutine (func_type (first_words b n) at)))
       unfolding verdict_of
       sig_many l = sym (func_parts ∙ ap (λ t. verdict_of (unless t BadSignature ++ (list_faults (value_faults m) (list_of value_type (first_words b n) at) ++ list_faults (value_faults m) (list_of value_type (first_words b n) (at + 1 + w))))) (lt-leb c 1 l))
 
@@ -86,10 +86,10 @@ module _ (b : List ℕ) (n at : ℕ) (h : Whole (func_type (first_words b n) at)
       few l = func_parts ∙ ap (λ t. verdict_of (unless t BadSignature ++ (list_faults (value_faults m) (list_of value_type (first_words b n) at) ++ list_faults (value_faults m) (list_of value_type (first_words b n) (at + 1 + w))))) (le-leb c 1 l)
 
       module _ (l : c ≤ 1) {r : Verdict} (k : r ≡ verdict_of (list_faults (value_faults m) (list_of value_type (first_words b n) at))) where
-        pub sig_stop : {b₁ : LoadErrorKind} → r ≡ Broken b₁ → Broken b₁ ≡ verdict_of (type_faults m (value_of coroutine (func_type (first_words b n) at)))
+        pub sig_stop : {b₁ : LoadErrorKind} → r ≡ Err b₁ → Err b₁ ≡ verdict_of (type_faults m (value_of coroutine (func_type (first_words b n) at)))
         sig_stop {b₁} z = verdict_stop (list_faults (value_faults m) (list_of value_type (first_words b n) at)) _ b₁ z k ∙ sym (few l)
 
-        pub sig_then : {x : Verdict} → r ≡ Holds → x ≡ verdict_of (list_faults (value_faults m) (list_of value_type (first_words b n) (at + 1 + w))) → x ≡ verdict_of (type_faults m (value_of coroutine (func_type (first_words b n) at)))
+        pub sig_then : {x : Verdict} → r ≡ Ok tt → x ≡ verdict_of (list_faults (value_faults m) (list_of value_type (first_words b n) (at + 1 + w))) → x ≡ verdict_of (type_faults m (value_of coroutine (func_type (first_words b n) at)))
         sig_then z y = verdict_then (list_faults (value_faults m) (list_of value_type (first_words b n) at)) _ z k y ∙ sym (few l)
 
 -- ── key, then value ──
@@ -116,10 +116,10 @@ module _ (ws : List ℕ) (at : ℕ) (h : Whole (of_two TypeDef.map ws at)) where
         ∙ ap₂ (λ x y. verdict_of (value_faults m x ++ value_faults m y)) (sym (value_got dyn e₁)) (sym (value_got dyn e₂))
 
     module _ {r : Verdict} (k : r ≡ verdict_of (value_faults m (value_of dyn (value_type ws at)))) where
-      pub two_stop : {b : LoadErrorKind} → r ≡ Broken b → Broken b ≡ verdict_of (type_faults m (value_of coroutine (of_two TypeDef.map ws at)))
+      pub two_stop : {b : LoadErrorKind} → r ≡ Err b → Err b ≡ verdict_of (type_faults m (value_of coroutine (of_two TypeDef.map ws at)))
       two_stop {b} z = verdict_stop (value_faults m (value_of dyn (value_type ws at))) _ b z k ∙ sym two_parts
 
-      pub two_then : {x : Verdict} → r ≡ Holds → x ≡ verdict_of (value_faults m (value_of dyn (value_type ws (at + 1)))) → x ≡ verdict_of (type_faults m (value_of coroutine (of_two TypeDef.map ws at)))
+      pub two_then : {x : Verdict} → r ≡ Ok tt → x ≡ verdict_of (value_faults m (value_of dyn (value_type ws (at + 1)))) → x ≡ verdict_of (type_faults m (value_of coroutine (of_two TypeDef.map ws at)))
       two_then z y = verdict_then (value_faults m (value_of dyn (value_type ws at))) _ z k y ∙ sym two_parts
 
 pub two_in : (b : List ℕ) (n at : ℕ) → Whole (of_two TypeDef.map (first_words b n) at) → at < n
@@ -207,13 +207,13 @@ module _ (b : List ℕ) (n at : ℕ) where
     six_on a b c d e f = beyond 5 w (beyond 4 w (beyond 3 w (beyond 2 w (beyond 1 w (beyond 0 w (omega arith) a) b) c) d) e) f
 
     -- a coroutine has no parts
-    pub kind_rest : (m : Module) → (w ≡ 0 → ⊥) → (w ≡ 1 → ⊥) → (w ≡ 2 → ⊥) → (w ≡ 3 → ⊥) → (w ≡ 4 → ⊥) → (w ≡ 5 → ⊥) → Holds ≡ verdict_of (type_faults m (value_of coroutine (type_def (first_words b n) at)))
+    pub kind_rest : (m : Module) → (w ≡ 0 → ⊥) → (w ≡ 1 → ⊥) → (w ≡ 2 → ⊥) → (w ≡ 3 → ⊥) → (w ≡ 4 → ⊥) → (w ≡ 5 → ⊥) → Ok tt ≡ verdict_of (type_faults m (value_of coroutine (type_def (first_words b n) at)))
     kind_rest m a b₁ c d f g = go (dec_lt w 7)
       where
-        none : (d : TypeDef) → d ≡ coroutine → Holds ≡ verdict_of (type_faults m d)
+        none : (d : TypeDef) → d ≡ coroutine → Ok tt ≡ verdict_of (type_faults m d)
         none d i = unfold verdict_of type_faults in sym (ap (λ y. verdict_of (type_faults m y)) i)
 
-        go : Dec (w < 7) → Holds ≡ verdict_of (type_faults m (value_of coroutine (type_def (first_words b n) at)))
+        go : Dec (w < 7) → Ok tt ≡ verdict_of (type_faults m (value_of coroutine (type_def (first_words b n) at)))
         go (yes l) = let z : w ≡ 6 = omega (arith, six_on a b₁ c d f g) in none (value_of coroutine (type_def (first_words b n) at)) (value_got coroutine (body 6 z))
         go (no l) = let k : 7 ≤ w = omega arith in absurd (not_whole (body w refl ∙ ap (λ (r : Reader TypeDef). r (first_words b n) (at + 1)) (get_or-eq_default type_bodies fail k)) h)
 
@@ -227,7 +227,7 @@ pub cleared_start : (m : Module) → Cleared m 0
 cleared_start m = record { clear = clears_start (λ j. type_faults m) m.types }
 
 module _ (ws w : List ℕ) (o : Opened) (x : Ready ws w o) (i : ℕ) where
-  pub cleared_end : Cleared (module_in ws) i → o.counts.types ≤ i → Holds ≡ verdict_of (concat_map (type_faults (module_in ws)) (module_in ws).types)
+  pub cleared_end : Cleared (module_in ws) i → o.counts.types ≤ i → Ok tt ≡ verdict_of (concat_map (type_faults (module_in ws)) (module_in ws).types)
   cleared_end y h =
       clears_holds (λ j. type_faults (module_in ws)) (module_in ws).types i y.clear (omega (arith, count_types ws o x.opens))
       ∙ sym (ap verdict_of (concat_map_from_lem 0 (type_faults (module_in ws)) (module_in ws).types))
@@ -238,10 +238,10 @@ module _ (ws w : List ℕ) (o : Opened) (x : Ready ws w o) (i : ℕ) where
     unfolding type_at
     at_number = k ∙ ap (λ d. verdict_of (type_faults (module_in ws) d)) (type_value ws w o x i h e)
 
-    pub cleared_next : r ≡ Holds → Cleared (module_in ws) (i + 1)
+    pub cleared_next : r ≡ Ok tt → Cleared (module_in ws) (i + 1)
     cleared_next z = record { clear = clears_pass (λ j. type_faults (module_in ws)) (module_in ws).types i y.clear coroutine (types_in ws w o x i h) z at_number }
 
-    pub cleared_stop : {b : LoadErrorKind} → r ≡ Broken b → Broken b ≡ verdict_of (concat_map (type_faults (module_in ws)) (module_in ws).types)
+    pub cleared_stop : {b : LoadErrorKind} → r ≡ Err b → Err b ≡ verdict_of (concat_map (type_faults (module_in ws)) (module_in ws).types)
     cleared_stop z =
         clears_stop (λ j. type_faults (module_in ws)) (module_in ws).types i y.clear coroutine (types_in ws w o x i h) z at_number
         ∙ sym (ap verdict_of (concat_map_from_lem 0 (type_faults (module_in ws)) (module_in ws).types))

@@ -8,13 +8,13 @@ ghost use Rattle.open_sheet.specs.Ready.{Opens, sheet_words, module_of};
 ghost use Rattle.types.specs.Types.{type_faults};
 
 use blocks::word;
-use error::{LoadErrorKind, Verdict};
+use error::LoadErrorKind;
 use open_sheet::Opened;
 use rule_values::{check_value, check_values};
 use rule2_structs::check_struct;
 
 // What follows a func type's kind word: at most one result before anything else, then parameters, then the result.
-pub fn check_sig(sheet: &[u8], o: Opened, at: usize) -> Verdict
+pub fn check_sig(sheet: &[u8], o: Opened, at: usize) -> Result<(), LoadErrorKind>
     requires whole { Whole (func_type (sheet_words sheet.now o) at) }
     requires opens { Opens (sheet_words sheet.now o) o }
     ensures { result ≡ verdict_of (type_faults (module_of sheet.now o) (value_of coroutine (func_type (sheet_words sheet.now o) at))) }
@@ -23,28 +23,23 @@ pub fn check_sig(sheet: &[u8], o: Opened, at: usize) -> Verdict
     let results_at = at + 1 + params as usize;
     let results = word(sheet, results_at);
     if 1 < results {
-        return Verdict::Broken(LoadErrorKind::BadSignature);
+        return Err(LoadErrorKind::BadSignature);
     }
-    match check_values(sheet, o, at) {
-        Verdict::Holds => check_values(sheet, o, results_at),
-        Verdict::Broken(k) => Verdict::Broken(k),
-    }
+    check_values(sheet, o, at)?;
+    check_values(sheet, o, results_at)
 }
 
 // Key before value.
-fn check_two(sheet: &[u8], o: Opened, at: usize) -> Verdict
+fn check_two(sheet: &[u8], o: Opened, at: usize) -> Result<(), LoadErrorKind>
     requires whole { Whole (of_two TypeDef.map (sheet_words sheet.now o) at) }
     requires opens { Opens (sheet_words sheet.now o) o }
     ensures { result ≡ verdict_of (type_faults (module_of sheet.now o) (value_of coroutine (of_two TypeDef.map (sheet_words sheet.now o) at))) }
 {
-    let value_at = at + 1;
-    match check_value(sheet, o, at) {
-        Verdict::Holds => check_value(sheet, o, value_at),
-        Verdict::Broken(k) => Verdict::Broken(k),
-    }
+    check_value(sheet, o, at)?;
+    check_value(sheet, o, at + 1)
 }
 
-pub fn check_type(sheet: &[u8], o: Opened, at: usize) -> Verdict
+pub fn check_type(sheet: &[u8], o: Opened, at: usize) -> Result<(), LoadErrorKind>
     requires whole { Whole (type_def (sheet_words sheet.now o) at) }
     requires opens { Opens (sheet_words sheet.now o) o }
     ensures { result ≡ verdict_of (type_faults (module_of sheet.now o) (value_of coroutine (type_def (sheet_words sheet.now o) at))) }
@@ -56,6 +51,6 @@ pub fn check_type(sheet: &[u8], o: Opened, at: usize) -> Verdict
         3 => check_two(sheet, o, at + 1),
         4 => check_value(sheet, o, at + 1),
         5 => check_two(sheet, o, at + 1),
-        _ => Verdict::Holds,
+        _ => Ok(()),
     }
 }

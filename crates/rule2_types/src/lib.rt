@@ -10,28 +10,21 @@ ghost use Rattle.types.specs.Types.{type_faults, types_faults};
 pub mod kinds;
 
 use crate::kinds::check_type;
-use error::{Judged, TypeId, Verdict, in_module};
+use error::{LoadError, LoadErrorKind, TypeId, in_module};
 use open_sheet::{Opened, type_at};
 
 // Types by number, up to the first that breaks the rule.
-fn all_types(sheet: &[u8], work: &[u32], o: Opened) -> Verdict
+fn all_types(sheet: &[u8], work: &[u32], o: Opened) -> Result<(), LoadErrorKind>
     requires { Ready (sheet_words sheet.now o) work.now o }
     ensures { result ≡ verdict_of (concat_map (type_faults (module_of sheet.now o)) (module_of sheet.now o).types) }
 {
-    let mut i = 0;
-    while i < o.counts.types {
-        match check_type(sheet, o, type_at(work, o, TypeId(i))) {
-            Verdict::Holds => {}
-            Verdict::Broken(k) => {
-                return Verdict::Broken(k);
-            }
-        }
-        i += 1;
+    for i in 0..o.counts.types {
+        check_type(sheet, o, type_at(work, o, TypeId(i)))?;
     }
-    Verdict::Holds
+    Ok(())
 }
 
-pub fn check_types(sheet: &[u8], work: &[u32], o: Opened) -> Judged
+pub fn check_types(sheet: &[u8], work: &[u32], o: Opened) -> Result<(), LoadError>
     requires { Ready (sheet_words sheet.now o) work.now o }
     ensures { result ≡ judged_of (types_faults (module_of sheet.now o)) }
 {

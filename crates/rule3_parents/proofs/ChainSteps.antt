@@ -3,7 +3,7 @@ use Prim.Native.Nat.{ℕ, suc, ◌+◌, ◌-◌, ◌≤◌, ◌<◌}
 use mathlib.Core.Path.{◌≡◌, refl, sym, ap, fun_ext, ◌∙◌}
 use mathlib.Core.List.{List}
 use mathlib.Core.Bool.{Bool, true, false}
-use mathlib.Core.Option.{Option, none, some}
+use Rattle.std.specs.Prelude.{Option, None, Some}
 use native.Mathlib.Omega.{arith}
 use native.Mathlib.Numerals.{add-one}
 use lib.Dec.{leb}
@@ -24,8 +24,8 @@ unfolding parent_word entry
 entry_none {C} d {p} k e f g = go (struct_of d) refl k
   where
     go : (s : Option Struct) → struct_of d ≡ s → p ≡ parent_of s → C
-    go none z k = f (unfold entry_of in ap entry_of z)
-    go (some s) z k = g (unfold entry_of struct_entry parent_of in ap entry_of z ∙ ap struct_entry (sym k ∙ e))
+    go None z k = f (unfold entry_of in ap entry_of z)
+    go (Some s) z k = g (unfold entry_of struct_entry parent_of in ap entry_of z ∙ ap struct_entry (sym k ∙ e))
 
 -- a parent
 pub entry_sub : (d : TypeDef) {p : ℕ} → p ≡ parent_word d → (p ≡ 0 → ⊥) → entry d ≡ sub (p - 1)
@@ -33,8 +33,8 @@ unfolding parent_word entry
 entry_sub d {p} k e = go (struct_of d) k
   where
     go : (s : Option Struct) → p ≡ parent_of s → entry_of s ≡ sub (p - 1)
-    go none k = absurd (e (unfold parent_of in k))
-    go (some s) k = unfold entry_of struct_entry parent_of in let z : s.parent+ ≡ suc (p - 1) = omega arith in ap struct_entry z
+    go None k = absurd (e (unfold parent_of in k))
+    go (Some s) k = unfold entry_of struct_entry parent_of in let z : s.parent+ ≡ suc (p - 1) = omega arith in ap struct_entry z
 
 -- ── the parents' words ──
 
@@ -53,8 +53,8 @@ unfolding parent_word entry
 word_tells d = go (struct_of d)
   where
     go : (s : Option Struct) → parents (struct_entry (parent_of s)) ≡ parents (entry_of s)
-    go none = unfold parent_of entry_of struct_entry parents in refl
-    go (some s) = unfold parent_of entry_of in refl
+    go None = unfold parent_of entry_of struct_entry parents in refl
+    go (Some s) = unfold parent_of entry_of in refl
 
 -- the chain by the words is that by the declarations
 pub words_chain : (types : List TypeDef) (f t : ℕ) → chain_in (parent_words types) f t ≡ chain types f t

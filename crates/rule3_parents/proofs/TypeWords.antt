@@ -3,7 +3,7 @@ use Prim.Native.Nat.{ℕ, suc, ◌+◌, ◌*◌, ◌≤◌, ◌<◌}
 use mathlib.Core.Path.{◌≡◌, refl, sym, ap, ◌∙◌}
 use mathlib.Core.List.{List, ◌∷◌, ◌++◌}
 use mathlib.Core.Bool.{Bool, true, false}
-use mathlib.Core.Option.{none}
+use Rattle.std.specs.Prelude.{None}
 use native.Mathlib.Omega.{arith}
 use lib.Dec.{eqb}
 use lib.ListN.{length, get_or, length-append, get_or-append}
@@ -78,7 +78,7 @@ as_struct (iter a v) e k f = let z : true ≡ false = sym e ∙ k in let y : ◌
 as_struct coroutine e k f = let z : true ≡ false = sym e ∙ k in let y : ◌≡◌ {A = ℕ} 0 1 = cc in absurd (omega arith)
 
 -- of what is no struct there is none
-pub no_struct_lem : (d : TypeDef) {r : Bool} → r ≡ false → r ≡ is_struct d → struct_of d ≡ none
+pub no_struct_lem : (d : TypeDef) {r : Bool} → r ≡ false → r ≡ is_struct d → struct_of d ≡ None
 unfolding is_struct kind_word struct_of
 no_struct_lem (func s) e k = refl
 no_struct_lem (struct s) e k = let z : false ≡ true = sym e ∙ k in let y : ◌≡◌ {A = ℕ} 0 1 = cc in absurd (omega arith)

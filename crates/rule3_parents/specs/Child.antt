@@ -1,6 +1,5 @@
 -- What the code tells of a struct and its declared parent.
-use Rattle.std.specs.Prelude.{ℕ, List, Bool, ◌&&◌, leb, length}
-use Rattle.std.proofs.Math.Option.{Option, none, some}
+use Rattle.std.specs.Prelude.{ℕ, List, Bool, ◌&&◌, leb, length, Option, None, Some}
 use Rattle.lists.specs.Lists.{concat_map_from}
 use Rattle.error.specs.declared.LoadErrorKind.{LoadErrorKind}
 use Rattle.sheet.specs.Module.{Struct, TypeDef, type_at, struct_of, is_struct}
@@ -8,8 +7,8 @@ use Rattle.parents.specs.Forest.{entry}
 use Rattle.parents.specs.Parents.{field_words, parent_faults}
 
 unfoldable pub parent_of : Option Struct → ℕ
-parent_of none = 0
-parent_of (some s) = s.parent+
+parent_of None = 0
+parent_of (Some s) = s.parent+
 
 -- the parent + 1; 0 for none, and of what is no struct
 unfoldable pub parent_word : TypeDef → ℕ

@@ -11,7 +11,7 @@ ghost use Rattle.rule3_parents.specs.Child.{parent_word, extends, scan_faults};
 ghost use Rattle.rule3_parents.specs.ParentWords.{parent_words, laid_words, chain_in};
 
 use blocks::word;
-use error::{Judged, LoadErrorKind, TypeId, Verdict, in_module};
+use error::{LoadError, LoadErrorKind, TypeId, in_module};
 use open_sheet::{Opened, type_at};
 use region::at;
 
@@ -29,13 +29,10 @@ pub fn is_struct(sheet: &[u8], work: &[u32], o: Opened, t: TypeId) -> bool
     requires { Ready (sheet_words sheet.now o) work.now o }
     ensures { result ≡ is_struct (type_at (module_of sheet.now o).types t.0) }
 {
-    if t.0 < o.counts.types {
-        return type_word(sheet, work, o, t, 0) == 1;
-    }
-    false
+    t.0 < o.counts.types && type_word(sheet, work, o, t, 0) == 1
 }
 
-// The parent + 1; 0 for none, and of what is no struct.
+// The parent + 1, as the sheet has it; 0 for none, and of what is no struct.
 pub fn parent_of(sheet: &[u8], work: &[u32], o: Opened, t: TypeId) -> u32
     requires { Ready (sheet_words sheet.now o) work.now o }
     ensures { result ≡ parent_word (type_at (module_of sheet.now o).types t.0) }
@@ -72,15 +69,14 @@ fn lay_parents(sheet: &[u8], work: &mut [u32], o: Opened)
     ensures work_after { laid_words o work.new ≡ parent_words (module_of sheet.now o).types }
     ensures kept { Kept o work.old work.new }
 {
-    let mut t = 0;
-    while t < o.counts.types {
+    for t in 0..o.counts.types {
         let p = parent_of(sheet, work, o, TypeId(t));
         work[5 * o.layout.words + t as usize] = p;
-        t += 1;
     }
 }
 
 // How many numbers are met from t up, at most `left`: one a turn, in one frame. p is a number + 1, as the parents' words are.
+// A `while`, as the client asked for: the loop counts what it met, and stops at a root or past the last type.
 fn chain_length(parents: &[u32], t: TypeId, left: u32) -> u32
     ensures { result ≡ length (chain_in parents.now left t.0) }
 {
@@ -118,53 +114,52 @@ fn may_extend(sheet: &[u8], work: &[u32], o: Opened, child: TypeId, parent: Type
     requires { Ready (sheet_words sheet.now o) work.now o }
     ensures { result ≡ extends (module_of sheet.now o).types parent.0 child.0 }
 {
-    if is_struct(sheet, work, o, parent) {
-        return count_words(sheet, work, o, parent) <= count_words(sheet, work, o, child);
-    }
-    false
+    is_struct(sheet, work, o, parent)
+        && count_words(sheet, work, o, parent) <= count_words(sheet, work, o, child)
 }
 
 // Type by type: the parent is fit, its fields are the first of the child's, the chain is short.
-fn scan_parents(sheet: &[u8], work: &[u32], parents: &[u32], o: Opened, most: u32) -> Verdict
+fn scan_parents(
+    sheet: &[u8],
+    work: &[u32],
+    parents: &[u32],
+    o: Opened,
+    most: u32,
+) -> Result<(), LoadErrorKind>
     requires ready { Ready (sheet_words sheet.now o) work.now o }
     requires parents_value { parents.now ≡ parent_words (module_of sheet.now o).types }
     requires most_bound { most < 4294967295 }
     ensures { result ≡ verdict_of (scan_faults most (module_of sheet.now o).types) }
 {
-    let mut found = Verdict::Holds;
-    let mut t = 0;
-    'types: while t < o.counts.types {
+    let mut found = Ok(());
+    'types: for t in 0..o.counts.types {
         let p = parents[t as usize];
         if p == 0 {
-            t += 1;
             continue 'types;
         }
         if !may_extend(sheet, work, o, TypeId(t), TypeId(p - 1)) {
-            found = Verdict::Broken(LoadErrorKind::BadParent);
+            found = Err(LoadErrorKind::BadParent);
             break 'types;
         }
         let n = count_words(sheet, work, o, TypeId(p - 1));
-        let mut i = 0;
-        while i < n {
+        for i in 0..n {
             if field_word(sheet, work, o, TypeId(p - 1), i)
                 != field_word(sheet, work, o, TypeId(t), i)
             {
-                found = Verdict::Broken(LoadErrorKind::BadParent);
+                found = Err(LoadErrorKind::BadParent);
                 break 'types;
             }
-            i += 1;
         }
         if most < numbers_met(parents, TypeId(t), most) {
-            found = Verdict::Broken(LoadErrorKind::InheritanceTooDeep);
+            found = Err(LoadErrorKind::InheritanceTooDeep);
             break 'types;
         }
-        t += 1;
     }
     found
 }
 
 // Rule 3: 16, then 17, at the first type that breaks it.
-pub fn check_parents(sheet: &[u8], work: &mut [u32], o: Opened, most: u32) -> Judged
+pub fn check_parents(sheet: &[u8], work: &mut [u32], o: Opened, most: u32) -> Result<(), LoadError>
     requires ready { Ready (sheet_words sheet.now o) work.old o }
     requires most_bound { most < 4294967295 }
     ensures value { result ≡ judged_of (parents_faults most (module_of sheet.now o)) }

@@ -10,11 +10,9 @@ use lib.Seq.{get_or-take, length-take-le, get_or-set_same, get_or-set_other}
 use Rattle.lists.specs.Lists.{all_of, concat_map_from}
 use Rattle.error.specs.declared.LoadErrorKind.{LoadErrorKind}
 use Rattle.error.specs.declared.LoadErrorKind.TheVariants.{BadConstant}
-use Rattle.error.specs.declared.Judged.{Judged}
-use Rattle.error.specs.declared.Verdict.{Verdict}
-use Rattle.error.specs.declared.Verdict.TheVariants.{Holds, Broken as BrokenRule}
+use Rattle.error.specs.Verdict.{Judged, Verdict, verdict_of, judged_of, placed}
+use Rattle.std.specs.Prelude.{Err, Ok, Result}
 use Rattle.error.specs.Answer.{unless, in_module}
-use Rattle.error.specs.Verdict.{verdict_of, judged_of, placed}
 use Rattle.error.specs.VerdictLaws.{placed_faults_lem}
 use Rattle.reader.specs.Value.{Whole, value_of}
 use Rattle.sheet.specs.Module.{Const, plain, Module}
@@ -28,30 +26,32 @@ use Rattle.law_judging.specs.Clearing.{Clears, clears_start, clears_next, clears
 use Rattle.open_sheet.specs.declared.Opened.{Opened}
 use Rattle.open_sheet.specs.Ready.{Opens, Ready, Kept, pos_at}
 use Rattle.open_sheet.specs.ReadyLaws.{entry_room, entry_whole, entry_value, consts_in, count_consts, consts_inside, ready_kept}
-use Rattle.rule4_nesting.specs.declared.Nested.{Nested}
-use Rattle.rule4_nesting.specs.declared.Nested.TheVariants.{Depth, Broken}
 use Rattle.rule4_nesting.specs.Nesting.{nested_of, nest_faults, const_nesting}
 use Rattle.rule4_consts.specs.InOrder.{broken_consts}
 
 -- ── an answer ──
 
-nested_depth : (f : List LoadErrorKind) (depth d : ℕ) {r : Nested} → r ≡ Depth d → r ≡ nested_of f depth → (f ≡ []) × (d ≡ depth)
+nested_depth : (f : List LoadErrorKind) (depth d : ℕ) {r : Result ℕ LoadErrorKind} → r ≡ Ok d → r ≡ nested_of f depth
+    → (f ≡ []) × (d ≡ depth)
 unfolding nested_of
 nested_depth [] depth d e k = (refl, cc)
 nested_depth (x ∷ f) depth d e k = let z : ◌≡◌ {A = ℕ} 0 1 = cc in absurd (omega arith)
 
-nested_broken : (f : List LoadErrorKind) (depth : ℕ) (b : LoadErrorKind) {r : Nested} → r ≡ Broken b → r ≡ nested_of f depth → BrokenRule b ≡ verdict_of f
+nested_broken : (f : List LoadErrorKind) (depth : ℕ) (b : LoadErrorKind) {r : Result ℕ LoadErrorKind} → r ≡ Err b → r ≡ nested_of f depth
+    → Err b ≡ verdict_of f
 unfolding nested_of verdict_of
 nested_broken [] depth b e k = let z : ◌≡◌ {A = ℕ} 0 1 = cc in absurd (omega arith)
-nested_broken (x ∷ f) depth b e k = let z : b ≡ x = cc in ap BrokenRule z
+nested_broken (x ∷ f) depth b e k = let z : b ≡ x = cc in ap Err z
 
 -- given the depths before it, a constant is broken as among all
 nesting_faults : (m : Module) (most i : ℕ) (k : Const) → i < length m.consts → get_or m.consts i (plain 0 0) ≡ k →
-    const_nesting m most (take i (depths m.consts)) i k ≡ nested_of (const_faults most m (depths m.consts) i k) (get_or (depths m.consts) i 0)
+    const_nesting m most (take i (depths m.consts)) i k
+    ≡ nested_of (const_faults most m (depths m.consts) i k) (get_or (depths m.consts) i 0)
 unfolding const_nesting nest_faults const_faults
 nesting_faults m most i k h e =
     let ds = depths m.consts in
-    let d : depth_of (take i ds) (children_of k) ≡ get_or ds i 0 = sym (depth_at m.consts i (plain 0 0) h ∙ ap (λ x. depth_of (take i ds) (children_of x)) e) in
+    let d : depth_of (take i ds) (children_of k)
+    ≡ get_or ds i 0 = sym (depth_at m.consts i (plain 0 0) h ∙ ap (λ x. depth_of (take i ds) (children_of x)) e) in
     let a = string_const_faults m k in
     let b = unless (all_of (λ c. ltb c i) (children_of k)) BadConstant in
     ap (λ x. nested_of (a ++ (b ++ unless (leb x most) BadConstant)) x) d
@@ -60,11 +60,13 @@ nesting_faults m most i k h e =
 -- ── the loop ──
 
 -- one more of ds is stored after the first i
-part_grown : (base i : ℕ) (w v ds : List ℕ) (d : ℕ) → base + i < length w → i < length ds → part base i w ≡ take i ds → d ≡ get_or ds i 0 → v ≡ set w (base + i) d →
+part_grown : (base i : ℕ) (w v ds : List ℕ) (d : ℕ) → base + i < length w → i < length ds → part base i w ≡ take i ds → d ≡ get_or ds i 0
+    → v ≡ set w (base + i) d →
     part base (i + 1) v ≡ take (i + 1) ds
 part_grown base i w v ds d h k e u z =
     ap (part base (i + 1)) z
-    ∙ part_is base (i + 1) (set w (base + i) d) (take (i + 1) ds) (omega (arith, length-set w (base + i) d)) (length-take-le (i + 1) ds (omega arith)) (λ j l. go j l (dec_lt j i))
+    ∙ part_is base (i + 1) (set w (base + i) d) (take (i + 1) ds) (omega (arith, length-set w (base + i) d))
+    (length-take-le (i + 1) ds (omega arith)) (λ j l. go j l (dec_lt j i))
   where
     go : (j : ℕ) → j < i + 1 → Dec (j < i) → get_or (set w (base + i) d) (base + j) 0 ≡ get_or (take (i + 1) ds) j 0
     go j l (yes t) =
@@ -106,7 +108,7 @@ module _ (most : ℕ) (ws w₀ : List ℕ) (o : Opened) where
     deep_opens = x.ready.opens
 
     pub deep_end : o.counts.consts ≤ i →
-        Holds ≡ verdict_of (broken_consts most (module_in ws))
+        Ok tt ≡ verdict_of (broken_consts most (module_in ws))
     unfolding broken_consts
     deep_end h =
         clears_holds
@@ -131,19 +133,23 @@ module _ (most : ℕ) (ws w₀ : List ℕ) (o : Opened) where
 
       module _ {p : ℕ} (e : p ≡ pos_at w o.index.consts i) where
         pub deep_whole : Whole (const_of ws p)
-        deep_whole = subst (λ q. Whole (const_of ws q)) (sym e) (entry_whole const_of ws (module_in ws).consts w o.index.consts x.ready.consts (plain 0 0) i inside)
+        deep_whole = subst (λ q. Whole (const_of ws q)) (sym e)
+            (entry_whole const_of ws (module_in ws).consts w o.index.consts x.ready.consts (plain 0 0) i inside)
 
         value : value_of (plain 0 0) (const_of ws p) ≡ get_or (module_in ws).consts i (plain 0 0)
-        value = ap (λ q. value_of (plain 0 0) (const_of ws q)) e ∙ entry_value const_of ws (module_in ws).consts w o.index.consts x.ready.consts (plain 0 0) i inside
+        value = ap (λ q. value_of (plain 0 0) (const_of ws q)) e
+            ∙ entry_value const_of ws (module_in ws).consts w o.index.consts x.ready.consts (plain 0 0) i inside
 
-        module _ {r : Nested} (k : r ≡ const_nesting (module_in ws) most (part (5 * o.layout.words) i w) i (value_of (plain 0 0) (const_of ws p))) where
+        module _ {r : Result ℕ LoadErrorKind}
+            (k : r ≡ const_nesting (module_in ws) most (part (5 * o.layout.words) i w) i (value_of (plain 0 0) (const_of ws p))) where
           found : r ≡ nested_of
               (const_faults most (module_in ws) (depths (module_in ws).consts) i (get_or (module_in ws).consts i (plain 0 0)))
               (get_or (depths (module_in ws).consts) i 0)
-          found = k ∙ ap₂ (λ s v. const_nesting (module_in ws) most s i v) x.stored value ∙ nesting_faults (module_in ws) most i (get_or (module_in ws).consts i (plain 0 0)) inside refl
+          found = k ∙ ap₂ (λ s v. const_nesting (module_in ws) most s i v) x.stored value
+              ∙ nesting_faults (module_in ws) most i (get_or (module_in ws).consts i (plain 0 0)) inside refl
 
-          pub deep_stop : {b : LoadErrorKind} → r ≡ Broken b →
-              BrokenRule b ≡ verdict_of (broken_consts most (module_in ws))
+          pub deep_stop : {b : LoadErrorKind} → r ≡ Err b →
+              Err b ≡ verdict_of (broken_consts most (module_in ws))
           unfolding broken_consts
           deep_stop {b} y =
               clears_stop
@@ -156,17 +162,22 @@ module _ (most : ℕ) (ws w₀ : List ℕ) (o : Opened) where
               refl
               (nested_broken _ _ b y found)
 
-          pub deep_next : {d : ℕ} {v : List ℕ} → r ≡ Depth d → v ≡ set w (5 * o.layout.words + i) d → Deep most ws w₀ o v (i + 1)
+          pub deep_next : {d : ℕ} {v : List ℕ} → r ≡ Ok d → v ≡ set w (5 * o.layout.words + i) d → Deep most ws w₀ o v (i + 1)
           unfolding Kept
           deep_next {d} {v} y z =
               let base = 5 * o.layout.words in
-              let f : Frame (λ k. k < base) w v = subst (Frame (λ k. k < base) w) (sym z) (frame_set (λ k. k < base) w (base + i) d (λ l. omega arith)) in
-              let a = nested_depth (const_faults most (module_in ws) (depths (module_in ws).consts) i (get_or (module_in ws).consts i (plain 0 0))) (get_or (depths (module_in ws).consts) i 0) d y found in
+              let f : Frame (λ k. k < base) w v = subst (Frame (λ k. k < base) w) (sym z)
+              (frame_set (λ k. k < base) w (base + i) d (λ l. omega arith)) in
+              let a = nested_depth
+              (const_faults most (module_in ws) (depths (module_in ws).consts) i (get_or (module_in ws).consts i (plain 0 0)))
+              (get_or (depths (module_in ws).consts) i 0) d y found in
               record {
                 ready = ready_kept ws w o x.ready v f;
                 kept = frame_then (λ k. k < base) (λ k. k < base) (λ k. k < base) w₀ w v (λ k l. l) (λ k l. l) x.kept f;
-                stored = part_grown base i w v (depths (module_in ws).consts) d deep_room (omega (arith, inside, length_depths (module_in ws).consts)) x.stored a.1 z;
-                clears = clears_next (const_faults most (module_in ws) (depths (module_in ws).consts)) (module_in ws).consts i x.clears (plain 0 0) inside a.0;
+                stored = part_grown base i w v (depths (module_in ws).consts) d deep_room
+                    (omega (arith, inside, length_depths (module_in ws).consts)) x.stored a.1 z;
+                clears = clears_next (const_faults most (module_in ws) (depths (module_in ws).consts)) (module_in ws).consts i x.clears
+                    (plain 0 0) inside a.0;
               }
 
 pub ruleset deeps = (deep_start, deep_kept, deep_opens, deep_end, deep_entry, deep_room, deep_under, deep_whole, deep_stop, deep_next)

@@ -11,10 +11,9 @@ use Rattle.blocks.specs.Frame.{first_words}
 use Rattle.blocks.proofs.FirstWords.{length_first_words}
 use Rattle.error.specs.declared.What.TheVariants.{Strings}
 use Rattle.error.specs.declared.LoadErrorKind.{LoadErrorKind}
-use Rattle.error.specs.declared.Verdict.{Verdict}
-use Rattle.error.specs.declared.Verdict.TheVariants.{Holds, Broken as BrokenRule}
+use Rattle.error.specs.Verdict.{Verdict, verdict_of}
+use Rattle.std.specs.Prelude.{Err, Ok, Result}
 use Rattle.error.specs.Answer.{in_range}
-use Rattle.error.specs.Verdict.{verdict_of}
 use Rattle.error.specs.VerdictLaws.{none_broken}
 use Rattle.reader.specs.Reader.{got, and_then, fail, word, many, list_of}
 use Rattle.reader.specs.ReaderLaws.{then_inv, stands_in, Found, free}
@@ -30,14 +29,13 @@ use Rattle.consts.specs.Consts.{children_of, depth_of, string_const_faults}
 use Rattle.open_sheet.specs.declared.Opened.{Opened}
 use Rattle.open_sheet.specs.Ready.{Opens}
 use Rattle.open_sheet.specs.ReadyLaws.{count_strings}
-use Rattle.rule4_nesting.specs.declared.Nested.{Nested}
-use Rattle.rule4_nesting.specs.declared.Nested.TheVariants.{Depth, Broken}
 use Rattle.rule4_nesting.specs.Nesting.{nested_of, nest_faults, nesting, const_nesting}
 
 -- ── pairs as words ──
 
 -- n pairs are 2 × n words
-pub pairs_words : (ws : List ℕ) (n p : ℕ) (es : List (ℕ × ℕ)) (q : ℕ) → many n pair_of ws p ≡ got es q → many (2 * n) word ws p ≡ got (concat_map (λ e. e.0 ∷ e.1 ∷ []) es) q
+pub pairs_words : (ws : List ℕ) (n p : ℕ) (es : List (ℕ × ℕ)) (q : ℕ) → many n pair_of ws p ≡ got es q
+    → many (2 * n) word ws p ≡ got (concat_map (λ e. e.0 ∷ e.1 ∷ []) es) q
 unfolding many pair_of
 pairs_words ws zero p es q e =
     let h : [] ≡ es = cc in
@@ -54,9 +52,13 @@ pairs_words ws (suc n) p es q e =
     let y : p₂ ≡ q = cc in
     let u : (k, v) ≡ a = cc in
     let t : s ≡ p₁ = cc in
-    let m : many (2 * n) word ws s ≡ got (concat_map (λ e. e.0 ∷ e.1 ∷ []) ys) p₂ = ap (many (2 * n) word ws) t ∙ pairs_words ws n p₁ ys p₂ e₃ in
+    let m : many (2 * n) word ws s ≡ got (concat_map (λ e. e.0 ∷ e.1 ∷ []) ys) p₂ = ap (many (2 * n) word ws) t
+    ∙ pairs_words ws n p₁ ys p₂ e₃ in
     ap (λ n. many n word ws p) z
-    ∙ rw (e₅, e₇, m) (ap (got (k ∷ v ∷ concat_map (λ e. e.0 ∷ e.1 ∷ []) ys)) y ∙ ap (λ (e : ℕ × ℕ). got (e.0 ∷ e.1 ∷ concat_map (λ e. e.0 ∷ e.1 ∷ []) ys) q) u ∙ ap (λ l. got (concat_map (λ e. e.0 ∷ e.1 ∷ []) l) q) h)
+    ∙ rw (e₅, e₇, m)
+    (ap (got (k ∷ v ∷ concat_map (λ e. e.0 ∷ e.1 ∷ []) ys)) y
+    ∙ ap (λ (e : ℕ × ℕ). got (e.0 ∷ e.1 ∷ concat_map (λ e. e.0 ∷ e.1 ∷ []) ys) q) u
+    ∙ ap (λ l. got (concat_map (λ e. e.0 ∷ e.1 ∷ []) l) q) h)
 
 -- ── a constant that was read ──
 
@@ -72,7 +74,8 @@ const_within ws at k q e = go k ((const_codes ws).found at k q e)
 
 -- a constant has two words or more
 pub const_fits : (b : List ℕ) (n at : ℕ) → Whole (const_of (first_words b n) at) → at + 2 ≤ n
-const_fits b n at h = whole_inv (const_of (first_words b n) at) h λ k q e. omega (arith, const_within (first_words b n) at k q e, length_first_words b n)
+const_fits b n at h = whole_inv (const_of (first_words b n) at) h λ k q e. omega
+    (arith, const_within (first_words b n) at k q e, length_first_words b n)
 
 module _ (b : List ℕ) (n at : ℕ) (h : Whole (const_of (first_words b n) at)) {w : ℕ} (e : w ≡ get_or (words b) at 0) where
   body : const_of (first_words b n) at ≡ get_or const_bodies w fail (first_words b n) (at + 1)
@@ -121,14 +124,17 @@ module _ (b : List ℕ) (n at : ℕ) (h : Whole (const_of (first_words b n) at))
     unfolding map_const list_of
     map_read z = body_of 3 z ∙ rw second
 
-    array_value : {C : Type 0} → w ≡ 2 → ((xs : List ℕ) (q : ℕ) → many v word (first_words b n) (at + 2) ≡ got xs q → value_of (plain 0 0) (const_of (first_words b n) at) ≡ Const.array xs → C) → C
+    array_value : {C : Type 0} → w ≡ 2
+        → ((xs : List ℕ) (q : ℕ) → many v word (first_words b n) (at + 2) ≡ got xs q
+        → value_of (plain 0 0) (const_of (first_words b n) at) ≡ Const.array xs → C) → C
     array_value z f =
         whole_inv (const_of (first_words b n) at) h λ k q e₁.
         then_inv (many v word (first_words b n) (at + 2)) _ (sym (array_read z) ∙ e₁) λ xs p e₂ e₃.
         let y : Const.array xs ≡ k = cc in
         f xs p e₂ (value_got (plain 0 0) e₁ ∙ sym y)
 
-    map_value : {C : Type 0} → w ≡ 3 → ((es : List (ℕ × ℕ)) (q : ℕ) → many (2 * v) word (first_words b n) (at + 2) ≡ got (children_of (Const.map es)) q
+    map_value : {C : Type 0} → w ≡ 3
+        → ((es : List (ℕ × ℕ)) (q : ℕ) → many (2 * v) word (first_words b n) (at + 2) ≡ got (children_of (Const.map es)) q
         → value_of (plain 0 0) (const_of (first_words b n) at) ≡ Const.map es → C) → C
     unfolding children_of
     map_value z f =
@@ -151,7 +157,7 @@ unfolding nest_faults
 none_nested most i = rw (le-leb 0 most (omega arith))
 
 module _ (m : Module) (most : ℕ) (done : List ℕ) (i : ℕ) where
-  plain_nesting : (l u : ℕ) → const_nesting m most done i (plain l u) ≡ Depth 0
+  plain_nesting : (l u : ℕ) → const_nesting m most done i (plain l u) ≡ Ok 0
   unfolding const_nesting string_const_faults children_of depth_of nested_of
   plain_nesting l u = rw (none_nested most i)
 
@@ -168,42 +174,47 @@ module _ (m : Module) (most : ℕ) (done : List ℕ) (i : ℕ) where
   map_nesting es = refl
 
   module _ (b : List ℕ) (n at : ℕ) (h : Whole (const_of (first_words b n) at)) {w : ℕ} (e : w ≡ get_or (words b) at 0) where
-    pub const_plain : w ≡ 0 → Depth 0 ≡ const_nesting m most done i (value_of (plain 0 0) (const_of (first_words b n) at))
+    pub const_plain : w ≡ 0 → Ok 0 ≡ const_nesting m most done i (value_of (plain 0 0) (const_of (first_words b n) at))
     const_plain z = plain_value b n at h e z λ l u g. sym (ap (const_nesting m most done i) g ∙ plain_nesting l u)
 
     module _ {v : ℕ} (g : v ≡ get_or (words b) (at + 1) 0) where
-      pub const_array : w ≡ 2 → {x : Nested} → x ≡ nesting most done i (value_of [] (many v word (first_words b n) (at + 2))) →
+      pub const_array : w ≡ 2 → {x : Result ℕ LoadErrorKind}
+          → x ≡ nesting most done i (value_of [] (many v word (first_words b n) (at + 2))) →
           x ≡ const_nesting m most done i (value_of (plain 0 0) (const_of (first_words b n) at))
       const_array z y = array_value b n at h e g z λ xs q e₁ e₂.
           y ∙ ap (nesting most done i) (value_got [] e₁) ∙ sym (ap (const_nesting m most done i) e₂ ∙ array_nesting xs)
 
-      pub const_map : (w ≡ 0 → ⊥) → (w ≡ 1 → ⊥) → (w ≡ 2 → ⊥) → {x : Nested} → x ≡ nesting most done i (value_of [] (many (2 * v) word (first_words b n) (at + 2))) →
+      pub const_map : (w ≡ 0 → ⊥) → (w ≡ 1 → ⊥) → (w ≡ 2 → ⊥) → {x : Result ℕ LoadErrorKind}
+          → x ≡ nesting most done i (value_of [] (many (2 * v) word (first_words b n) (at + 2))) →
           x ≡ const_nesting m most done i (value_of (plain 0 0) (const_of (first_words b n) at))
       const_map z₀ z₁ z₂ y = map_value b n at h e g (kind_three b n at h e z₀ z₁ z₂) λ es q e₁ e₂.
           y ∙ ap (nesting most done i) (value_got [] e₁) ∙ sym (ap (const_nesting m most done i) e₂ ∙ map_nesting es)
 
 -- ── a string ──
 
-nested_broken : (f : List LoadErrorKind) (depth : ℕ) (k : LoadErrorKind) {r : Verdict} → r ≡ BrokenRule k → r ≡ verdict_of f → Broken k ≡ nested_of f depth
+nested_broken : (f : List LoadErrorKind) (depth : ℕ) (k : LoadErrorKind) {r : Verdict} → r ≡ Err k → r ≡ verdict_of f
+    → Err k ≡ nested_of f depth
 unfolding verdict_of nested_of
 nested_broken [] depth k y l = let z : ◌≡◌ {A = ℕ} 0 1 = cc in absurd (omega arith)
-nested_broken (f ∷ fs) depth k y l = let z : k ≡ f = cc in ap Broken z
+nested_broken (f ∷ fs) depth k y l = let z : k ≡ f = cc in ap Err z
 
-module _ (most : ℕ) (done : List ℕ) (i : ℕ) (b : List ℕ) (n at : ℕ) (h : Whole (const_of (first_words b n) at)) (o : Opened) (x : Opens (first_words b n) o)
+module _ (most : ℕ) (done : List ℕ) (i : ℕ) (b : List ℕ) (n at : ℕ) (h : Whole (const_of (first_words b n) at)) (o : Opened)
+    (x : Opens (first_words b n) o)
     {w : ℕ} (e : w ≡ get_or (words b) at 0) (z : w ≡ 1) {v : ℕ} (g : v ≡ get_or (words b) (at + 1) 0) where
-  string_const_lem : const_nesting (module_in (first_words b n)) most done i (value_of (plain 0 0) (const_of (first_words b n) at)) ≡ nested_of (in_range Strings o.counts.strings v) 0
+  string_const_lem : const_nesting (module_in (first_words b n)) most done i (value_of (plain 0 0) (const_of (first_words b n) at))
+      ≡ nested_of (in_range Strings o.counts.strings v) 0
   string_const_lem =
       ap (const_nesting (module_in (first_words b n)) most done i) (string_value b n at h e g z)
       ∙ string_nesting (module_in (first_words b n)) most done i v
       ∙ ap (λ k. nested_of (in_range Strings k v) 0) (sym (count_strings (first_words b n) o x))
 
-  pub const_string : {r : Verdict} → r ≡ Holds → r ≡ verdict_of (in_range Strings o.counts.strings v) →
-      Depth 0 ≡ const_nesting (module_in (first_words b n)) most done i (value_of (plain 0 0) (const_of (first_words b n) at))
+  pub const_string : {r : Verdict} → r ≡ Ok tt → r ≡ verdict_of (in_range Strings o.counts.strings v) →
+      Ok 0 ≡ const_nesting (module_in (first_words b n)) most done i (value_of (plain 0 0) (const_of (first_words b n) at))
   unfolding nested_of
   const_string k l = sym (string_const_lem ∙ ap (λ f. nested_of f 0) (none_broken (in_range Strings o.counts.strings v) k l))
 
-  pub const_no_string : {r : Verdict} (k : LoadErrorKind) → r ≡ BrokenRule k → r ≡ verdict_of (in_range Strings o.counts.strings v) →
-      Broken k ≡ const_nesting (module_in (first_words b n)) most done i (value_of (plain 0 0) (const_of (first_words b n) at))
+  pub const_no_string : {r : Verdict} (k : LoadErrorKind) → r ≡ Err k → r ≡ verdict_of (in_range Strings o.counts.strings v) →
+      Err k ≡ const_nesting (module_in (first_words b n)) most done i (value_of (plain 0 0) (const_of (first_words b n) at))
   const_no_string k y l = nested_broken (in_range Strings o.counts.strings v) 0 k y l ∙ sym string_const_lem
 
 pub ruleset kinds = (const_plain, const_array, const_map, const_string, const_no_string)

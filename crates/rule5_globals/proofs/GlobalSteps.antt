@@ -9,9 +9,9 @@ use Rattle.blocks.specs.Blocks.{words}
 use Rattle.blocks.specs.Frame.{first_words}
 use Rattle.error.specs.declared.What.TheVariants.{Constants}
 use Rattle.error.specs.declared.LoadErrorKind.{LoadErrorKind}
-use Rattle.error.specs.declared.Verdict.{Verdict}
-use Rattle.error.specs.declared.Verdict.TheVariants.{Holds, Broken}
-use Rattle.error.specs.declared.Judged.{Judged}
+use Rattle.error.specs.Verdict.{Verdict}
+use Rattle.std.specs.Prelude.{Err, Ok}
+use Rattle.error.specs.Verdict.{Judged}
 use Rattle.error.specs.Answer.{in_module, in_range}
 use Rattle.error.specs.Verdict.{verdict_of, judged_of, placed}
 use Rattle.error.specs.VerdictLaws.{verdict_then, verdict_stop, placed_faults_lem}
@@ -19,7 +19,7 @@ use Rattle.reader.specs.Reader.{got, word, list_of}
 use Rattle.reader.specs.ReaderLaws.{then_inv}
 use Rattle.reader.specs.Value.{Whole, value_of}
 use Rattle.reader.specs.ValueLaws.{whole_inv, got_whole, value_got}
-use Rattle.reader.proofs.SizeLaws.{word_within, word_held}
+use Rattle.reader.proofs.SizeLaws.{Takes, coded_takes, word_within, word_held}
 use Rattle.sheet.specs.Module.{ValueType, dyn, Global}
 use Rattle.sheet.specs.Decode.{value_type, global_of}
 use Rattle.sheet.specs.Encode.{encode_value, encode_global}
@@ -30,16 +30,16 @@ use Rattle.open_layout.specs.Opened.{module_in}
 use Rattle.open_sheet.specs.declared.Opened.{Opened}
 use Rattle.open_sheet.specs.Ready.{Opens}
 use Rattle.open_sheet.specs.ReadyLaws.{count_consts}
-use Rattle.law_judging.specs.Judging.{Judges, list_faults, judges_next}
+use Rattle.law_judging.specs.Judging.{list_faults}
 use Rattle.rule5_globals.specs.Globals.{no_global}
 
 -- ── a global that was read ──
 
-module _ (b : List ℕ) (n at : ℕ) {a : Global} {q : ℕ} (e : global_of (first_words b n) at ≡ got a q) where
-  global_end : q ≡ at + 2
-  unfolding encode_global encode_value
-  global_end = ((global_codes (first_words b n)).found at a q e).stands.end
+pub global_takes : Takes global_of 2
+unfolding encode_global encode_value
+global_takes = coded_takes global_of encode_global _ 2 global_codes (λ a. refl) (omega arith)
 
+module _ (b : List ℕ) (n at : ℕ) {a : Global} {q : ℕ} (e : global_of (first_words b n) at ≡ got a q) where
   global_in : at + 1 < n
   unfolding encode_global encode_value
   global_in = word_within global_of encode_global _ b n (global_codes (first_words b n)) at a q e 1 (omega arith)
@@ -80,13 +80,13 @@ module _ (b : List ℕ) (o : Opened) where
         global_type b o.layout.words at e λ p g.
         f a (y ∙ ap (λ v. verdict_of (value_faults (module_in ws) v)) (value_got dyn g)) (global_init b o.layout.words at e) (value_got no_global e)
 
-    pub global_stop : {k : LoadErrorKind} → r ≡ Broken k → Broken k ≡ verdict_of (global_faults (module_in ws) (value_of no_global (global_of ws at)))
+    pub global_stop : {k : LoadErrorKind} → r ≡ Err k → Err k ≡ verdict_of (global_faults (module_in ws) (value_of no_global (global_of ws at)))
     unfolding global_faults
     global_stop {k} z = known λ a e i v.
         verdict_stop (value_faults (module_in ws) a.type) (init_faults (module_in ws) a.init+) k z e
         ∙ ap (λ g. verdict_of (global_faults (module_in ws) g)) (sym v)
 
-    module _ {i : ℕ} (z : r ≡ Holds) (l : i ≡ get_or (words b) (at + 1) 0) where
+    module _ {i : ℕ} (z : r ≡ Ok tt) (l : i ≡ get_or (words b) (at + 1) 0) where
       then_init : {x : Verdict} → x ≡ verdict_of (init_faults (module_in ws) i) → x ≡ verdict_of (global_faults (module_in ws) (value_of no_global (global_of ws at)))
       unfolding global_faults
       then_init k = known λ a e j v.
@@ -94,7 +94,7 @@ module _ (b : List ℕ) (o : Opened) where
           (k ∙ ap (λ c. verdict_of (init_faults (module_in ws) c)) (l ∙ sym j))
           ∙ ap (λ g. verdict_of (global_faults (module_in ws) g)) (sym v)
 
-      pub global_none : i ≡ 0 → Holds ≡ verdict_of (global_faults (module_in ws) (value_of no_global (global_of ws at)))
+      pub global_none : i ≡ 0 → Ok tt ≡ verdict_of (global_faults (module_in ws) (value_of no_global (global_of ws at)))
       unfolding init_faults verdict_of
       global_none k = then_init (sym (ap (λ c. verdict_of (init_faults (module_in ws) c)) k))
 
@@ -109,10 +109,6 @@ module _ (b : List ℕ) (o : Opened) where
 
 pub globals_whole : (ws : List ℕ) (o : Opened) → Opens ws o → Whole (list_of global_of ws o.layout.globals)
 globals_whole ws o x = got_whole x.located.globals
-
-module _ (faults : Global → List LoadErrorKind) (b : List ℕ) (n at left q : ℕ) (x : Judges global_of faults (first_words b n) at left q) (h : 0 < left) where
-  pub globals_next : {r : Verdict} → r ≡ Holds → r ≡ verdict_of (faults (value_of no_global (global_of (first_words b n) q))) → Judges global_of faults (first_words b n) at (left - 1) (q + 2)
-  globals_next e k = judges_next global_of faults (first_words b n) at left q x h no_global (q + 2) e k λ a p g. global_end b n q g
 
 pub globals_judged : (ws : List ℕ) (o : Opened) {v : Verdict} {r : Judged} → Opens ws o → v ≡ verdict_of (list_faults (global_faults (module_in ws)) (list_of global_of ws o.layout.globals))
     → r ≡ placed in_module v → r ≡ judged_of (globals_faults (module_in ws))

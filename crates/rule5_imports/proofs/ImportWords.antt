@@ -2,7 +2,7 @@
 use Prim.Native.Nat.{ℕ, ◌+◌, ◌<◌}
 use mathlib.Core.Path.{◌≡◌, sym, ap, ◌∙◌}
 use mathlib.Core.List.{List}
-use mathlib.Core.Option.{none}
+use Rattle.std.specs.Prelude.{None}
 use native.Mathlib.Omega.{arith}
 use lib.ListN.{get_or}
 use Rattle.blocks.specs.Blocks.{words}
@@ -61,5 +61,5 @@ module _ (b w : List ℕ) (o : Opened) (x : Ready (first_words b o.layout.words)
     pub import_list : Whole (param_list ws (p + 3))
     import_list = list_read ws p stood λ r g. got_whole g
 
-    pub import_listed : value_of none (param_list ws (p + 3)) ≡ (import_at (module_in ws) i).params
-    import_listed = list_read ws p stood λ r g. value_got none g
+    pub import_listed : value_of None (param_list ws (p + 3)) ≡ (import_at (module_in ws) i).params
+    import_listed = list_read ws p stood λ r g. value_got None g

@@ -11,29 +11,25 @@ use Rattle.blocks.specs.Frame.{first_words}
 use Rattle.error.specs.declared.LoadErrorKind.{LoadErrorKind}
 use Rattle.error.specs.declared.LoadErrorKind.TheVariants.{BadSignature, UnresolvedImport}
 use Rattle.error.specs.declared.StrId.{StrId}
-use Rattle.error.specs.declared.Verdict.{Verdict}
-use Rattle.error.specs.declared.Verdict.TheVariants.{Holds, Broken as BrokenRule}
+use Rattle.error.specs.Verdict.{Verdict, verdict_of}
+use Rattle.std.specs.Prelude.{Err, Ok, Option, None, Some, Result}
 use Rattle.error.specs.Answer.{unless}
-use Rattle.error.specs.Verdict.{verdict_of}
 use Rattle.error.specs.VerdictLaws.{none_broken, verdict_stop}
 use Rattle.reader.specs.Reader.{many, list_of}
 use Rattle.reader.specs.Value.{Whole}
 use Rattle.reader.specs.ValueLaws.{whole_inv, value_got, list_whole, list_value}
 use Rattle.reader.proofs.SizeLaws.{many_length}
 use Rattle.sheet.specs.Module.{Import, Module}
-use Rattle.host.specs.declared.Found.{Found}
-use Rattle.host.specs.declared.Found.TheVariants.{At, Missing}
 use Rattle.host.specs.Host.{HostFn, host_fn, resolved, is_scheduler}
 use Rattle.host.specs.Listed.{found_at, hosts_in}
 use Rattle.imports.specs.Params.{sig_params, param_list_faults}
 use Rattle.imports.specs.Imports.{host_entry, scheduler_fits, import_faults}
-use Rattle.rule5_imports.specs.declared.Linked.{Linked}
-use Rattle.rule5_imports.specs.declared.Linked.TheVariants.{Entry, Broken}
 use Rattle.rule5_imports.specs.Links.{linked_of, names_faults, head_faults, unresolved, takes_dyn, scheduler_takes, tail_faults, host_faults}
 
 -- ── a place in the host list is a word ──
 
-pub entry_least : (b : List ℕ) (n k : ℕ) {c r : ℕ} → Whole (list_of host_fn (first_words b n) 2) → k < length (hosts_in (first_words b n)) → c ≡ get_or (words b) 2 0 → r ≡ min k c → r ≡ k
+pub entry_least : (b : List ℕ) (n k : ℕ) {c r : ℕ} → Whole (list_of host_fn (first_words b n) 2) → k < length (hosts_in (first_words b n))
+    → c ≡ get_or (words b) 2 0 → r ≡ min k c → r ≡ k
 entry_least b n k {c} h l z y =
     let e : length (hosts_in (first_words b n)) ≡ c =
     whole_inv (many c host_fn (first_words b n) 3) (list_whole host_fn b n 2 h z) (λ hs q g.
@@ -42,50 +38,59 @@ entry_least b n k {c} h l z y =
 
 -- ── after the lookup ──
 
-pub linked_entry : (xs : List LoadErrorKind) (k : ℕ) {v : Verdict} → v ≡ Holds → v ≡ verdict_of xs → Entry k ≡ linked_of xs k
+pub linked_entry : (xs : List LoadErrorKind) (k : ℕ) {v : Verdict} → v ≡ Ok tt → v ≡ verdict_of xs → Ok k ≡ linked_of xs k
 unfolding linked_of
 linked_entry xs k e z = sym (ap (λ l. linked_of l k) (none_broken xs e z))
 
-pub linked_broken : (xs : List LoadErrorKind) (k : ℕ) (b : LoadErrorKind) {v : Verdict} → v ≡ BrokenRule b → v ≡ verdict_of xs → Broken b ≡ linked_of xs k
+pub linked_broken : (xs : List LoadErrorKind) (k : ℕ) (b : LoadErrorKind) {v : Verdict} → v ≡ Err b → v ≡ verdict_of xs
+    → Err b ≡ linked_of xs k
 unfolding linked_of verdict_of
 linked_broken [] k b e z = let y : ◌≡◌ {A = ℕ} 0 1 = cc in absurd (omega arith)
-linked_broken (x ∷ xs) k b e z = let y : b ≡ x = cc in ap Broken y
+linked_broken (x ∷ xs) k b e z = let y : b ≡ x = cc in ap Err y
 
 -- ── the lookup ──
 
-module _ (hosts : List HostFn) (e : ℕ) {f : Found} (z : f ≡ found_at hosts e) where
-  found_at_lem : {k : ℕ} {s : Bool} {C : Type 0} → f ≡ At k s → (resolved hosts e ≡ true → k ≡ e → s ≡ is_scheduler hosts e → C) → C
+module _ (hosts : List HostFn) (e : ℕ) {f : Option (ℕ × Bool)} (z : f ≡ found_at hosts e) where
+  found_at_lem : {k : ℕ} {s : Bool} {C : Type 0} → f ≡ Some (k, s) → (resolved hosts e ≡ true → k ≡ e → s ≡ is_scheduler hosts e → C) → C
   unfolding found_at
   found_at_lem {k} {s} {C} u c = go (resolved hosts e) refl (sym u ∙ z)
     where
-      go : (x : Bool) → resolved hosts e ≡ x → At k s ≡ cond x (At e (is_scheduler hosts e)) Missing → C
-      go true y q = let a : k ≡ e = cc in let b : s ≡ is_scheduler hosts e = cc in c y a b
+      go : (x : Bool) → resolved hosts e ≡ x → ◌≡◌ {A = Option (ℕ × Bool)} (Some (k, s)) (cond x (Some (e, is_scheduler hosts e)) None) → C
+      go true y q =
+          let same : ◌≡◌ {A = ℕ × Bool} (k, s) (e, is_scheduler hosts e) = cc in
+          c y (ap (λ (p : ℕ × Bool). p.0) same) (ap (λ (p : ℕ × Bool). p.1) same)
       go false y q = let w : ◌≡◌ {A = ℕ} 0 1 = cc in absurd (omega arith)
 
-  found_none : f ≡ Missing → resolved hosts e ≡ false
+  found_none : f ≡ None → resolved hosts e ≡ false
   unfolding found_at
   found_none u = go (resolved hosts e) refl (sym u ∙ z)
     where
-      go : (x : Bool) → resolved hosts e ≡ x → Missing ≡ cond x (At e (is_scheduler hosts e)) Missing → resolved hosts e ≡ false
+      go : (x : Bool) → resolved hosts e ≡ x → None ≡ cond {A = Option (ℕ × Bool)} x (Some (e, is_scheduler hosts e)) None
+          → resolved hosts e ≡ false
       go true y q = let w : ◌≡◌ {A = ℕ} 0 1 = cc in absurd (omega arith)
       go false y q = y
 
-  pub host_place : {k : ℕ} {s : Bool} → f ≡ At k s → k < length hosts
+  pub host_place : {k : ℕ} {s : Bool} → f ≡ Some (k, s) → k < length hosts
   unfolding resolved
   host_place u = found_at_lem u λ y a b. omega (arith, ltb-true e (length hosts) y)
 
-module _ (hosts : List HostFn) (m : Module) (i : Import) {f : Found} (z : f ≡ found_at hosts (host_entry m hosts i)) where
-  pub host_linked : {k j : ℕ} {s : Bool} {r : Linked} → f ≡ At k s → j ≡ k → r ≡ linked_of (tail_faults m s i) j → r ≡ linked_of (host_faults hosts m i) (host_entry m hosts i)
+module _ (hosts : List HostFn) (m : Module) (i : Import) {f : Option (ℕ × Bool)} (z : f ≡ found_at hosts (host_entry m hosts i)) where
+  pub host_linked : {k j : ℕ} {s : Bool} {r : Result ℕ LoadErrorKind} → f ≡ Some (k, s) → j ≡ k → r ≡ linked_of (tail_faults m s i) j
+      → r ≡ linked_of (host_faults hosts m i) (host_entry m hosts i)
   unfolding host_faults
   host_linked {k} {j} {s} u v g = found_at_lem hosts (host_entry m hosts i) z u λ y a b.
       g ∙ ap₂ (λ s k. linked_of (tail_faults m s i) k) b (v ∙ a)
-      ∙ sym (ap (λ x. linked_of (unless x (unresolved i) ++ tail_faults m (is_scheduler hosts (host_entry m hosts i)) i) (host_entry m hosts i)) y)
+      ∙ sym (ap
+      (λ x. linked_of (unless x (unresolved i) ++ tail_faults m (is_scheduler hosts (host_entry m hosts i)) i)
+      (host_entry m hosts i)) y)
 
-  pub host_missing : {b : LoadErrorKind} → f ≡ Missing → b ≡ unresolved i → Broken b ≡ linked_of (host_faults hosts m i) (host_entry m hosts i)
+  pub host_missing : {b : LoadErrorKind} → f ≡ None → b ≡ unresolved i → Err b ≡ linked_of (host_faults hosts m i) (host_entry m hosts i)
   unfolding host_faults linked_of
   host_missing u v =
-      ap Broken v
-      ∙ sym (ap (λ x. linked_of (unless x (unresolved i) ++ tail_faults m (is_scheduler hosts (host_entry m hosts i)) i) (host_entry m hosts i)) (found_none hosts (host_entry m hosts i) z u))
+      ap Err v
+      ∙ sym (ap
+      (λ x. linked_of (unless x (unresolved i) ++ tail_faults m (is_scheduler hosts (host_entry m hosts i)) i) (host_entry m hosts i))
+      (found_none hosts (host_entry m hosts i) z u))
 
 pub names_missing : (i : Import) (a b : StrId) → a.0 ≡ i.module_name → b.0 ≡ i.name → UnresolvedImport a b ≡ unresolved i
 unfolding unresolved
@@ -102,12 +107,14 @@ module _ (hosts : List HostFn) (m : Module) (i : Import) {v : Verdict} (z : v �
       let e = param_list_faults m i.params (sig_params m i.sig) in
       append_assoc (head_faults m i ++ c) d e ∙ append_assoc (head_faults m i) c (d ++ e)
 
-  pub import_linked : {r : Linked} → v ≡ Holds → r ≡ linked_of (host_faults hosts m i) (host_entry m hosts i) → r ≡ linked_of (import_faults hosts m i) (host_entry m hosts i)
+  pub import_linked : {r : Result ℕ LoadErrorKind} → v ≡ Ok tt → r ≡ linked_of (host_faults hosts m i) (host_entry m hosts i)
+      → r ≡ linked_of (import_faults hosts m i) (host_entry m hosts i)
   import_linked u g =
       g ∙ sym (ap (λ l. linked_of (l ++ host_faults hosts m i) (host_entry m hosts i)) (none_broken (head_faults m i) u z))
       ∙ sym (ap (λ l. linked_of l (host_entry m hosts i)) parts)
 
-  pub import_stop : {b : LoadErrorKind} → v ≡ BrokenRule b → Broken b ≡ linked_of (import_faults hosts m i) (host_entry m hosts i)
+  pub import_stop : {b : LoadErrorKind} → v ≡ Err b → Err b ≡ linked_of (import_faults hosts m i) (host_entry m hosts i)
   import_stop {b} u =
-      linked_broken (head_faults m i ++ host_faults hosts m i) (host_entry m hosts i) b refl (verdict_stop (head_faults m i) (host_faults hosts m i) b u z)
+      linked_broken (head_faults m i ++ host_faults hosts m i) (host_entry m hosts i) b refl
+      (verdict_stop (head_faults m i) (host_faults hosts m i) b u z)
       ∙ sym (ap (λ l. linked_of l (host_entry m hosts i)) parts)

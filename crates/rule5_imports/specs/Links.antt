@@ -1,13 +1,10 @@
 -- What code says of an import: its place in the host list, or how it is broken first.
-use Rattle.std.specs.Prelude.{ℕ, ◌+◌, ◌*◌, ◌<◌, max, ◌≡◌, List, [], ◌∷◌, ◌++◌, Bool, not, ◌&&◌, ◌||◌, length, get_or}
+use Rattle.std.specs.Prelude.{ℕ, ◌+◌, ◌*◌, ◌<◌, max, ◌≡◌, List, [], ◌∷◌, ◌++◌, Bool, not, ◌&&◌, ◌||◌, length, get_or, Ok, Result, Err}
 use Rattle.lists.specs.Lists.{concat_map_from}
 use Rattle.error.specs.declared.What.TheVariants.{Strings}
 use Rattle.error.specs.declared.LoadErrorKind.{LoadErrorKind}
 use Rattle.error.specs.declared.LoadErrorKind.TheVariants.{BadSignature, UnresolvedImport}
-use Rattle.error.specs.declared.Verdict.{Verdict}
-use Rattle.error.specs.declared.Verdict.TheVariants.{Holds}
-use Rattle.error.specs.declared.Judged.{Judged}
-use Rattle.error.specs.declared.Judged.TheVariants.{Passed}
+use Rattle.error.specs.Verdict.{Verdict, Judged}
 use Rattle.error.specs.Answer.{unless, in_range, string_number}
 use Rattle.sheet.specs.Module.{Import, Module}
 use Rattle.host.specs.Host.{HostFn, resolved, is_scheduler}
@@ -17,13 +14,11 @@ use Rattle.code.specs.Callee.{import_at}
 use Rattle.open_layout.specs.Opened.{module_in}
 use Rattle.open_sheet.specs.declared.Opened.{Opened}
 use Rattle.rule_signatures.specs.Signature.{HasSig}
-use Rattle.rule5_imports.specs.declared.Linked.{Linked}
-use Rattle.rule5_imports.specs.declared.Linked.TheVariants.{Entry, Broken}
 
 -- the place, if nothing is broken
-unfoldable pub linked_of : List LoadErrorKind → ℕ → Linked
-linked_of [] k = Entry k
-linked_of (b ∷ bs) k = Broken b
+unfoldable pub linked_of : List LoadErrorKind → ℕ → Result ℕ LoadErrorKind
+linked_of [] k = Ok k
+linked_of (b ∷ bs) k = Err b
 
 -- ── the rule in parts ──
 
@@ -71,7 +66,7 @@ pub record HostEntries (hosts : List HostFn) (ws w : List ℕ) (o : Opened) (n :
 
 -- all of them, if nothing is broken
 pub record EntriesIf (v : Verdict) (hosts : List HostFn) (ws w : List ℕ) (o : Opened) : Type 0 where
-  pub entries : v ≡ Holds → HostEntries hosts ws w o (length (module_in ws).imports)
+  pub entries : v ≡ Ok tt → HostEntries hosts ws w o (length (module_in ws).imports)
 
 pub record LinkedIf (r : Judged) (hosts : List HostFn) (ws w : List ℕ) (o : Opened) : Type 0 where
-  pub entries : r ≡ Passed → HostEntries hosts ws w o (length (module_in ws).imports)
+  pub entries : r ≡ Ok tt → HostEntries hosts ws w o (length (module_in ws).imports)

@@ -1,8 +1,7 @@
 // Rule 5 in code: imports, each linked to its place in the host list.
 #![tactic(auto)]
 
-ghost use Rattle.std.specs.Prelude.{◌≡◌, ◌+◌, ◌*◌, ◌<◌, length, set};
-ghost use Rattle.std.proofs.Math.Option.{none};
+ghost use Rattle.std.specs.Prelude.{◌≡◌, ◌<◌, length};
 ghost use Rattle.blocks.specs.Frame.{first_words};
 ghost use Rattle.error.specs.Verdict.{verdict_of, judged_of};
 ghost use Rattle.reader.specs.Reader.{list_of};
@@ -18,20 +17,12 @@ ghost use Rattle.rule_signatures.specs.Signature.{HasSig};
 ghost use Rattle.rule5_imports.specs.Links.{linked_of, names_faults, head_faults, HeadHolds, takes_dyn, scheduler_takes, tail_faults, host_faults, unresolved, broken_imports, EntriesIf, LinkedIf};
 
 use blocks::word;
-use error::{Judged, LoadErrorKind, StrId, TypeId, Verdict, in_module, string_in};
-use host::Found;
+use error::{LoadError, LoadErrorKind, StrId, TypeId, in_module, string_in};
 use open_hosts::lookup;
 use open_sheet::{Opened, import_at, string_at};
 use region::least;
 use rule_lists::check_params;
 use rule_signatures::{check_signature, is_one_dyn, params_at, results_at};
-
-// The place of an import's function in the host list, or how the import is broken first.
-#[derive(Clone, Copy)]
-pub enum Linked {
-    Entry(u32),
-    Broken(LoadErrorKind),
-}
 
 // The words of import i: module, name, signature, and then its parameter list.
 fn import_module(sheet: &[u8], work: &[u32], o: Opened, i: u32) -> StrId
@@ -62,13 +53,13 @@ pub fn import_params(sheet: &[u8], work: &[u32], o: Opened, i: u32) -> usize
     requires ready { Ready (sheet_words sheet.now o) work.now o }
     requires i_lt_imports { i < o.counts.imports }
     ensures whole { Whole (param_list (sheet_words sheet.now o) result) }
-    ensures result_value { value_of none (param_list (sheet_words sheet.now o) result) ≡ (import_at (module_of sheet.now o) i).params }
+    ensures result_value { value_of None (param_list (sheet_words sheet.now o) result) ≡ (import_at (module_of sheet.now o) i).params }
 {
     import_at(work, o, i) + 3
 }
 
 // The larger of the two names is a string.
-fn check_names(sheet: &[u8], work: &[u32], o: Opened, i: u32) -> Verdict
+fn check_names(sheet: &[u8], work: &[u32], o: Opened, i: u32) -> Result<(), LoadErrorKind>
     requires ready { Ready (sheet_words sheet.now o) work.now o }
     requires i_lt_imports { i < o.counts.imports }
     ensures { result ≡ verdict_of (names_faults (module_of sheet.now o) (import_at (module_of sheet.now o) i)) }
@@ -82,16 +73,14 @@ fn check_names(sheet: &[u8], work: &[u32], o: Opened, i: u32) -> Verdict
 }
 
 // The signature, then the names.
-fn check_head(sheet: &[u8], work: &[u32], o: Opened, i: u32) -> Verdict
+fn check_head(sheet: &[u8], work: &[u32], o: Opened, i: u32) -> Result<(), LoadErrorKind>
     requires ready { Ready (sheet_words sheet.now o) work.now o }
     requires i_lt_imports { i < o.counts.imports }
     ensures { result ≡ verdict_of (head_faults (module_of sheet.now o) (import_at (module_of sheet.now o) i)) }
 {
     let t = import_sig(sheet, work, o, i);
-    match check_signature(sheet, work, o, t) {
-        Verdict::Holds => check_names(sheet, work, o, i),
-        Verdict::Broken(k) => Verdict::Broken(k),
-    }
+    check_signature(sheet, work, o, t)?;
+    check_names(sheet, work, o, i)
 }
 
 // The host function with the module and name of import i.
@@ -103,7 +92,7 @@ fn find_host(
     n: usize,
     index: &[u32],
     i: u32,
-) -> Found
+) -> Option<(usize, bool)>
     requires ready { Ready (sheet_words sheet.now o) work.now o }
     requires i_lt_imports { i < o.counts.imports }
     requires head_holds { HeadHolds (module_of sheet.now o) (import_at (module_of sheet.now o) i) }
@@ -134,11 +123,8 @@ fn takes_dyn(sheet: &[u8], work: &[u32], o: Opened, t: TypeId) -> bool
     ensures { result ≡ takes_dyn (module_of sheet.now o) t.0 }
 {
     let p = params_at(sheet, work, o, t);
-    if is_one_dyn(sheet, o.layout.words, p) {
-        let q = results_at(sheet, work, o, t);
-        return is_one_dyn(sheet, o.layout.words, q);
-    }
-    false
+    let q = results_at(sheet, work, o, t);
+    is_one_dyn(sheet, o.layout.words, p) && is_one_dyn(sheet, o.layout.words, q)
 }
 
 // Any signature does for what is no scheduler.
@@ -147,14 +133,17 @@ fn scheduler_takes(sheet: &[u8], work: &[u32], o: Opened, t: TypeId, scheduler: 
     requires has_sig { HasSig (module_of sheet.now o) t.0 }
     ensures { result ≡ scheduler_takes (module_of sheet.now o) scheduler t.0 }
 {
-    if scheduler {
-        return takes_dyn(sheet, work, o, t);
-    }
-    true
+    !scheduler || takes_dyn(sheet, work, o, t)
 }
 
 // The scheduler's signature, then the parameter list.
-fn check_tail(sheet: &[u8], work: &mut [u32], o: Opened, i: u32, scheduler: bool) -> Verdict
+fn check_tail(
+    sheet: &[u8],
+    work: &mut [u32],
+    o: Opened,
+    i: u32,
+    scheduler: bool,
+) -> Result<(), LoadErrorKind>
     requires ready { Ready (sheet_words sheet.now o) work.old o }
     requires i_lt_imports { i < o.counts.imports }
     requires head_holds { HeadHolds (module_of sheet.now o) (import_at (module_of sheet.now o) i) }
@@ -162,12 +151,12 @@ fn check_tail(sheet: &[u8], work: &mut [u32], o: Opened, i: u32, scheduler: bool
     ensures work_unchanged { work.new ≡ work.old }
 {
     let t = import_sig(sheet, work, o, i);
-    if scheduler_takes(sheet, work, o, t, scheduler) {
-        let at = import_params(sheet, work, o, i);
-        let p = params_at(sheet, work, o, t);
-        return check_params(sheet, work, o, at, p);
+    if !scheduler_takes(sheet, work, o, t, scheduler) {
+        return Err(LoadErrorKind::BadSignature);
     }
-    Verdict::Broken(LoadErrorKind::BadSignature)
+    let at = import_params(sheet, work, o, i);
+    let p = params_at(sheet, work, o, t);
+    check_params(sheet, work, o, at, p)
 }
 
 // A place in the host list is below its count, and so a word.
@@ -181,17 +170,22 @@ fn entry_word(hosts: &[u8], n: usize, k: usize) -> u32
 }
 
 // Import i names the host function at place k.
-fn link_found(sheet: &[u8], work: &mut [u32], o: Opened, i: u32, k: u32, scheduler: bool) -> Linked
+fn link_found(
+    sheet: &[u8],
+    work: &mut [u32],
+    o: Opened,
+    i: u32,
+    k: u32,
+    scheduler: bool,
+) -> Result<u32, LoadErrorKind>
     requires ready { Ready (sheet_words sheet.now o) work.old o }
     requires i_lt_imports { i < o.counts.imports }
     requires head_holds { HeadHolds (module_of sheet.now o) (import_at (module_of sheet.now o) i) }
     ensures value { result ≡ linked_of (tail_faults (module_of sheet.now o) scheduler (import_at (module_of sheet.now o) i)) k }
     ensures work_unchanged { work.new ≡ work.old }
 {
-    match check_tail(sheet, work, o, i, scheduler) {
-        Verdict::Holds => Linked::Entry(k),
-        Verdict::Broken(b) => Linked::Broken(b),
-    }
+    check_tail(sheet, work, o, i, scheduler)?;
+    Ok(k)
 }
 
 // Import i whose signature and names are there.
@@ -203,7 +197,7 @@ fn link_named(
     n: usize,
     index: &[u32],
     i: u32,
-) -> Linked
+) -> Result<u32, LoadErrorKind>
     requires ready { Ready (sheet_words sheet.now o) work.old o }
     requires i_lt_imports { i < o.counts.imports }
     requires head_holds { HeadHolds (module_of sheet.now o) (import_at (module_of sheet.now o) i) }
@@ -211,13 +205,11 @@ fn link_named(
     ensures value { result ≡ linked_of (host_faults (hosts_in (first_words hosts.now n)) (module_of sheet.now o) (import_at (module_of sheet.now o) i)) (host_entry (module_of sheet.now o) (hosts_in (first_words hosts.now n)) (import_at (module_of sheet.now o) i)) }
     ensures work_unchanged { work.new ≡ work.old }
 {
-    match find_host(sheet, work, o, hosts, n, index, i) {
-        Found::At(k, scheduler) => {
-            let entry = entry_word(hosts, n, k);
-            link_found(sheet, work, o, i, entry, scheduler)
-        }
-        Found::Missing => Linked::Broken(missing(sheet, work, o, i)),
-    }
+    let Some((k, scheduler)) = find_host(sheet, work, o, hosts, n, index, i) else {
+        return Err(missing(sheet, work, o, i));
+    };
+    let entry = entry_word(hosts, n, k);
+    link_found(sheet, work, o, i, entry, scheduler)
 }
 
 // Signature, names, lookup, scheduler, parameter list.
@@ -229,24 +221,15 @@ fn link_import(
     n: usize,
     index: &[u32],
     i: u32,
-) -> Linked
+) -> Result<u32, LoadErrorKind>
     requires ready { Ready (sheet_words sheet.now o) work.old o }
     requires i_lt_imports { i < o.counts.imports }
     requires sorted_hosts { SortedHosts (first_words hosts.now n) index.now }
     ensures value { result ≡ linked_of (import_faults (hosts_in (first_words hosts.now n)) (module_of sheet.now o) (import_at (module_of sheet.now o) i)) (host_entry (module_of sheet.now o) (hosts_in (first_words hosts.now n)) (import_at (module_of sheet.now o) i)) }
     ensures work_unchanged { work.new ≡ work.old }
 {
-    match check_head(sheet, work, o, i) {
-        Verdict::Holds => link_named(sheet, work, o, hosts, n, index, i),
-        Verdict::Broken(b) => Linked::Broken(b),
-    }
-}
-
-fn put_entry(work: &mut [u32], o: Opened, i: u32, k: u32)
-    requires { 5 * o.layout.words + i < length work.old }
-    ensures { work.new ≡ set work.old (5 * o.layout.words + i) k }
-{
-    work[5 * o.layout.words + i as usize] = k;
+    check_head(sheet, work, o, i)?;
+    link_named(sheet, work, o, hosts, n, index, i)
 }
 
 // Imports in order; the place of each is stored in the free words.
@@ -257,26 +240,18 @@ fn link_each(
     hosts: &[u8],
     n: usize,
     index: &[u32],
-) -> Verdict
+) -> Result<(), LoadErrorKind>
     requires ready { Ready (sheet_words sheet.now o) work.old o }
     requires sorted_hosts { SortedHosts (first_words hosts.now n) index.now }
     ensures value { result ≡ verdict_of (broken_imports (hosts_in (first_words hosts.now n)) (module_of sheet.now o)) }
     ensures kept { Kept o work.old work.new }
     ensures entries_if { EntriesIf result (hosts_in (first_words hosts.now n)) (sheet_words sheet.now o) work.new o }
 {
-    let mut i = 0;
-    while i < o.counts.imports {
-        match link_import(sheet, work, o, hosts, n, index, i) {
-            Linked::Entry(k) => {
-                put_entry(work, o, i, k);
-            }
-            Linked::Broken(b) => {
-                return Verdict::Broken(b);
-            }
-        }
-        i += 1;
+    for i in 0..o.counts.imports {
+        let k = link_import(sheet, work, o, hosts, n, index, i)?;
+        work[5 * o.layout.words + i as usize] = k;
     }
-    Verdict::Holds
+    Ok(())
 }
 
 pub fn check_imports(
@@ -286,7 +261,7 @@ pub fn check_imports(
     hosts: &[u8],
     n: usize,
     index: &[u32],
-) -> Judged
+) -> Result<(), LoadError>
     requires ready { Ready (sheet_words sheet.now o) work.old o }
     requires sorted_hosts { SortedHosts (first_words hosts.now n) index.now }
     ensures value { result ≡ judged_of (imports_faults (hosts_in (first_words hosts.now n)) (module_of sheet.now o)) }

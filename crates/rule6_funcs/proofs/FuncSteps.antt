@@ -7,12 +7,9 @@ use lib.ListN.{length}
 use Rattle.error.specs.declared.FuncId.{FuncId}
 use Rattle.error.specs.declared.LoadErrorKind.{LoadErrorKind}
 use Rattle.error.specs.declared.LoadError.{LoadError}
-use Rattle.error.specs.declared.Verdict.{Verdict}
-use Rattle.error.specs.declared.Verdict.TheVariants.{Holds, Broken}
-use Rattle.error.specs.declared.Judged.{Judged}
-use Rattle.error.specs.declared.Judged.TheVariants.{Passed, Refused}
+use Rattle.error.specs.Verdict.{Verdict, Judged, verdict_of, judged_of, placed}
+use Rattle.std.specs.Prelude.{Err, Ok}
 use Rattle.error.specs.Answer.{in_function}
-use Rattle.error.specs.Verdict.{verdict_of, judged_of, placed}
 use Rattle.error.specs.VerdictLaws.{verdict_then, verdict_stop, placed_faults_lem}
 use Rattle.open_layout.specs.Opened.{module_in}
 use Rattle.code.specs.Callee.{no_func, func_at}
@@ -32,22 +29,21 @@ use Rattle.rule6_records.proofs.RecordSteps.{func_parts}
 pub ready_same : (ws w v : List ℕ) (o : Opened) → Ready ws w o → v ≡ w → Ready ws v o
 ready_same ws w v o x e = subst (λ u. Ready ws u o) (sym e) x
 
-pub same_twice : (u v w : List ℕ) → v ≡ u → w ≡ v → w ≡ u
-same_twice u v w e k = k ∙ e
-
 -- ── one function ──
 
-module _ (ws : List ℕ) (c : Frame) (f : FuncId) {r : Verdict} (h : c.func ≡ f) (k : r ≡ verdict_of (head_faults (module_in ws) (func_of ws c))) where
+module _ (ws : List ℕ) (c : Frame) (f : FuncId) {r : Verdict} (h : c.func ≡ f)
+    (k : r ≡ verdict_of (head_faults (module_in ws) (func_of ws c))) where
   same_func : verdict_of (func_faults (module_in ws) (func_of ws c)) ≡ verdict_of (func_faults (module_in ws) (func_at (module_in ws) f.0))
   unfolding func_of
   same_func = ap (λ (g : FuncId). verdict_of (func_faults (module_in ws) (func_at (module_in ws) g.0))) h
 
-  pub func_stop : {b : LoadErrorKind} → r ≡ Broken b → Broken b ≡ verdict_of (func_faults (module_in ws) (func_at (module_in ws) f.0))
+  pub func_stop : {b : LoadErrorKind} → r ≡ Err b → Err b ≡ verdict_of (func_faults (module_in ws) (func_at (module_in ws) f.0))
   func_stop {b} e =
       verdict_stop (head_faults (module_in ws) (func_of ws c)) (lists_faults (module_in ws) (func_of ws c)) b e k
       ∙ sym (ap verdict_of (func_parts (module_in ws) (func_of ws c))) ∙ same_func
 
-  pub func_then : {v : Verdict} → r ≡ Holds → v ≡ verdict_of (lists_faults (module_in ws) (func_of ws c)) → v ≡ verdict_of (func_faults (module_in ws) (func_at (module_in ws) f.0))
+  pub func_then : {v : Verdict} → r ≡ Ok tt → v ≡ verdict_of (lists_faults (module_in ws) (func_of ws c))
+      → v ≡ verdict_of (func_faults (module_in ws) (func_at (module_in ws) f.0))
   func_then e z =
       verdict_then (head_faults (module_in ws) (func_of ws c)) (lists_faults (module_in ws) (func_of ws c)) e k z
       ∙ sym (ap verdict_of (func_parts (module_in ws) (func_of ws c))) ∙ same_func
@@ -71,14 +67,16 @@ module _ (ws w₀ : List ℕ) (o : Opened) where
     pub recorded_ready : Ready ws w o
     recorded_ready = x.ready
 
-    pub recorded_end : o.counts.funcs ≤ f → Passed ≡ judged_of (funcs_faults (module_in ws))
+    pub recorded_end : o.counts.funcs ≤ f → Ok tt ≡ judged_of (funcs_faults (module_in ws))
     unfolding funcs_faults record_faults
-    recorded_end h = clears_passed (record_faults (module_in ws)) (module_in ws).funcs f x.clears (omega (arith, count_funcs ws o x.ready.opens))
+    recorded_end h = clears_passed (record_faults (module_in ws)) (module_in ws).funcs f x.clears
+        (omega (arith, count_funcs ws o x.ready.opens))
 
     pub recorded_on : (v : List ℕ) → v ≡ w → v ≡ w₀
     recorded_on v e = e ∙ x.same
 
-    module _ (h : f < o.counts.funcs) {v : Verdict} {r : Judged} (k : v ≡ verdict_of (func_faults (module_in ws) (func_at (module_in ws) f))) (g : r ≡ placed (in_function f) v) where
+    module _ (h : f < o.counts.funcs) {v : Verdict} {r : Judged}
+        (k : v ≡ verdict_of (func_faults (module_in ws) (func_at (module_in ws) f))) (g : r ≡ placed (in_function f) v) where
       here : r ≡ judged_of (record_faults (module_in ws) f (func_at (module_in ws) f))
       unfolding record_faults
       here = placed_faults_lem (in_function f) (func_faults (module_in ws) (func_at (module_in ws) f)) k g
@@ -86,7 +84,7 @@ module _ (ws w₀ : List ℕ) (o : Opened) where
       below : f < length (module_in ws).funcs
       below = omega (arith, count_funcs ws o x.ready.opens)
 
-      pub recorded_next : (u : List ℕ) → u ≡ w → r ≡ Passed → Recorded ws w₀ u o (f + 1)
+      pub recorded_next : (u : List ℕ) → u ≡ w → r ≡ Ok tt → Recorded ws w₀ u o (f + 1)
       unfolding func_at
       recorded_next u e z = record {
         same = e ∙ x.same;
@@ -94,7 +92,7 @@ module _ (ws w₀ : List ℕ) (o : Opened) where
         clears = clears_on (record_faults (module_in ws)) (module_in ws).funcs f x.clears no_func below z here;
       }
 
-      pub recorded_stop : {d : LoadError} → r ≡ Refused d → Refused d ≡ judged_of (funcs_faults (module_in ws))
+      pub recorded_stop : {d : LoadError} → r ≡ Err d → Err d ≡ judged_of (funcs_faults (module_in ws))
       unfolding funcs_faults record_faults func_at
       recorded_stop z = clears_refused (record_faults (module_in ws)) (module_in ws).funcs f x.clears no_func below z here
 

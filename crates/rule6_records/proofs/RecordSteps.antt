@@ -10,10 +10,9 @@ use Rattle.lists.specs.Lists.{concat_map}
 use Rattle.error.specs.declared.What.TheVariants.{Types, Registers}
 use Rattle.error.specs.declared.LoadErrorKind.{LoadErrorKind}
 use Rattle.error.specs.declared.LoadErrorKind.TheVariants.{OutOfRange}
-use Rattle.error.specs.declared.Verdict.{Verdict}
-use Rattle.error.specs.declared.Verdict.TheVariants.{Holds, Broken}
+use Rattle.error.specs.Verdict.{Verdict, verdict_of}
+use Rattle.std.specs.Prelude.{Err, Ok}
 use Rattle.error.specs.Answer.{unless, in_range}
-use Rattle.error.specs.Verdict.{verdict_of}
 use Rattle.error.specs.VerdictLaws.{verdict_then, verdict_stop}
 use Rattle.reader.specs.Reader.{got, Reader, word, list_of}
 use Rattle.reader.specs.Value.{Whole}
@@ -65,7 +64,8 @@ module _ (ws : List ℕ) (c : Frame) (x : Framed ws c) where
 pub ruleset standing = (regs_whole, params_whole, shapes_whole, captures_whole, names_whole, refs_whole)
 
 -- what is broken in a list that stands there
-listed : {A : Type 0} (f : Reader A) (faults : A → List LoadErrorKind) (ws : List ℕ) (at : ℕ) (xs : List A) (q : ℕ) → list_of f ws at ≡ got xs q →
+listed : {A : Type 0} (f : Reader A) (faults : A → List LoadErrorKind) (ws : List ℕ) (at : ℕ) (xs : List A) (q : ℕ)
+    → list_of f ws at ≡ got xs q →
     list_faults faults (list_of f ws at) ≡ concat_map faults xs
 unfolding list_faults
 listed f faults ws at xs q e = ap (concat_map faults) (value_got [] e)
@@ -73,30 +73,37 @@ listed f faults ws at xs q e = ap (concat_map faults) (value_got [] e)
 -- ── register types, their number ──
 
 module _ (ws : List ℕ) (c : Frame) (x : Framed ws c) where
-  pub regs_faults : list_faults (value_faults (module_in ws)) (list_of value_type ws c.body.regs) ≡ concat_map (value_faults (module_in ws)) (func_of ws c).regs
+  pub regs_faults : list_faults (value_faults (module_in ws)) (list_of value_type ws c.body.regs)
+      ≡ concat_map (value_faults (module_in ws)) (func_of ws c).regs
   regs_faults = listed value_type (value_faults (module_in ws)) ws c.body.regs (func_of ws c).regs c.body.params x.placed.regs
 
-  registers : verdict_of (list_faults (value_faults (module_in ws)) (list_of value_type ws c.body.regs) ++ unless (leb c.regs most_registers) (OutOfRange Registers c.regs))
+  registers : verdict_of
+      (list_faults (value_faults (module_in ws)) (list_of value_type ws c.body.regs)
+      ++ unless (leb c.regs most_registers) (OutOfRange Registers c.regs))
       ≡ verdict_of (registers_faults (module_in ws) (func_of ws c))
   unfolding registers_faults
   registers = ap (λ l. verdict_of (l ++ unless (leb c.regs most_registers) (OutOfRange Registers c.regs))) regs_faults
-      ∙ ap (λ n. verdict_of (concat_map (value_faults (module_in ws)) (func_of ws c).regs ++ unless (leb n most_registers) (OutOfRange Registers n))) x.regs
+      ∙ ap (λ n. verdict_of
+      (concat_map (value_faults (module_in ws)) (func_of ws c).regs ++ unless (leb n most_registers) (OutOfRange Registers n))) x.regs
 
   module _ {r : Verdict} (k : r ≡ verdict_of (list_faults (value_faults (module_in ws)) (list_of value_type ws c.body.regs))) where
-    pub registers_stop : {b : LoadErrorKind} → r ≡ Broken b → Broken b ≡ verdict_of (registers_faults (module_in ws) (func_of ws c))
+    pub registers_stop : {b : LoadErrorKind} → r ≡ Err b → Err b ≡ verdict_of (registers_faults (module_in ws) (func_of ws c))
     registers_stop {b} e = verdict_stop (list_faults (value_faults (module_in ws)) (list_of value_type ws c.body.regs)) _ b e k ∙ registers
 
-    counted : {v : Verdict} (t : Bool) → r ≡ Holds → leb c.regs most_registers ≡ t → v ≡ verdict_of (unless t (OutOfRange Registers c.regs)) → v ≡ verdict_of (registers_faults (module_in ws) (func_of ws c))
+    counted : {v : Verdict} (t : Bool) → r ≡ Ok tt → leb c.regs most_registers ≡ t
+        → v ≡ verdict_of (unless t (OutOfRange Registers c.regs)) → v ≡ verdict_of (registers_faults (module_in ws) (func_of ws c))
     counted t e z h =
-        verdict_then (list_faults (value_faults (module_in ws)) (list_of value_type ws c.body.regs)) (unless (leb c.regs most_registers) (OutOfRange Registers c.regs)) e k
+        verdict_then (list_faults (value_faults (module_in ws)) (list_of value_type ws c.body.regs))
+        (unless (leb c.regs most_registers) (OutOfRange Registers c.regs)) e k
         (h ∙ sym (ap (λ b. verdict_of (unless b (OutOfRange Registers c.regs))) z))
         ∙ registers
 
-    pub registers_many : r ≡ Holds → 65536 < c.regs → Broken (OutOfRange Registers c.regs) ≡ verdict_of (registers_faults (module_in ws) (func_of ws c))
+    pub registers_many : r ≡ Ok tt → 65536 < c.regs
+        → Err (OutOfRange Registers c.regs) ≡ verdict_of (registers_faults (module_in ws) (func_of ws c))
     unfolding verdict_of
     registers_many e h = counted false e (lt-leb c.regs 65536 h) refl
 
-    pub registers_hold : r ≡ Holds → c.regs ≤ 65536 → Holds ≡ verdict_of (registers_faults (module_in ws) (func_of ws c))
+    pub registers_hold : r ≡ Ok tt → c.regs ≤ 65536 → Ok tt ≡ verdict_of (registers_faults (module_in ws) (func_of ws c))
     unfolding verdict_of
     registers_hold e h = counted true e (le-leb c.regs 65536 h) refl
 
@@ -105,53 +112,69 @@ pub ruleset registering = (registers_stop, registers_many, registers_hold)
 -- ── captures, names, type refs ──
 
 module _ (ws : List ℕ) (c : Frame) (x : Framed ws c) where
-  captures_faults : list_faults (value_faults (module_in ws)) (list_of value_type ws c.body.captures) ≡ concat_map (value_faults (module_in ws)) (func_of ws c).captures
-  captures_faults = listed value_type (value_faults (module_in ws)) ws c.body.captures (func_of ws c).captures c.body.names x.placed.captures
+  captures_faults : list_faults (value_faults (module_in ws)) (list_of value_type ws c.body.captures)
+      ≡ concat_map (value_faults (module_in ws)) (func_of ws c).captures
+  captures_faults = listed value_type (value_faults (module_in ws)) ws c.body.captures
+      (func_of ws c).captures c.body.names x.placed.captures
 
-  names_faults_lem : list_faults (string_faults (module_in ws)) (list_of word ws c.body.names) ≡ concat_map (string_faults (module_in ws)) (func_of ws c).names
+  names_faults_lem : list_faults (string_faults (module_in ws)) (list_of word ws c.body.names)
+      ≡ concat_map (string_faults (module_in ws)) (func_of ws c).names
   names_faults_lem = listed word (string_faults (module_in ws)) ws c.body.names (func_of ws c).names c.body.type_refs x.placed.names
 
-  refs_faults : list_faults (in_range Types (length (module_in ws).types)) (list_of word ws c.body.type_refs) ≡ concat_map (type_ref_faults (module_in ws)) (func_of ws c).type_refs
+  refs_faults : list_faults (in_range Types (length (module_in ws).types)) (list_of word ws c.body.type_refs)
+      ≡ concat_map (type_ref_faults (module_in ws)) (func_of ws c).type_refs
   unfolding type_ref_faults
-  refs_faults = listed word (in_range Types (length (module_in ws).types)) ws c.body.type_refs (func_of ws c).type_refs c.body.handlers x.placed.type_refs
+  refs_faults = listed word (in_range Types (length (module_in ws).types)) ws c.body.type_refs
+      (func_of ws c).type_refs c.body.handlers x.placed.type_refs
 
   module _ {r : Verdict} (k : r ≡ verdict_of (list_faults (value_faults (module_in ws)) (list_of value_type ws c.body.captures))) where
     first : r ≡ verdict_of (concat_map (value_faults (module_in ws)) (func_of ws c).captures)
     first = k ∙ ap verdict_of captures_faults
 
-    pub tail_stop : {b : LoadErrorKind} → r ≡ Broken b → Broken b ≡ verdict_of (tail_faults (module_in ws) (func_of ws c))
+    pub tail_stop : {b : LoadErrorKind} → r ≡ Err b → Err b ≡ verdict_of (tail_faults (module_in ws) (func_of ws c))
     unfolding tail_faults
     tail_stop {b} e = verdict_stop (concat_map (value_faults (module_in ws)) (func_of ws c).captures) _ b e first
 
-    module _ (e : r ≡ Holds) {s : Verdict} (l : s ≡ verdict_of (list_faults (string_faults (module_in ws)) (list_of word ws c.body.names))) where
-      pub tail_second : {b : LoadErrorKind} → s ≡ Broken b → Broken b ≡ verdict_of (tail_faults (module_in ws) (func_of ws c))
+    module _ (e : r ≡ Ok tt) {s : Verdict}
+        (l : s ≡ verdict_of (list_faults (string_faults (module_in ws)) (list_of word ws c.body.names))) where
+      pub tail_second : {b : LoadErrorKind} → s ≡ Err b → Err b ≡ verdict_of (tail_faults (module_in ws) (func_of ws c))
       unfolding tail_faults
       tail_second {b} z =
           verdict_then (concat_map (value_faults (module_in ws)) (func_of ws c).captures) _ e first
-          (verdict_stop (concat_map (string_faults (module_in ws)) (func_of ws c).names) (concat_map (type_ref_faults (module_in ws)) (func_of ws c).type_refs) b z (l ∙ ap verdict_of names_faults_lem))
+          (verdict_stop (concat_map (string_faults (module_in ws)) (func_of ws c).names)
+          (concat_map (type_ref_faults (module_in ws)) (func_of ws c).type_refs) b z (l ∙ ap verdict_of names_faults_lem))
 
-      pub tail_third : {v : Verdict} → s ≡ Holds → v ≡ verdict_of (list_faults (in_range Types (length (module_in ws).types)) (list_of word ws c.body.type_refs)) → v ≡ verdict_of (tail_faults (module_in ws) (func_of ws c))
+      pub tail_third : {v : Verdict} → s ≡ Ok tt
+          → v ≡ verdict_of (list_faults (in_range Types (length (module_in ws).types)) (list_of word ws c.body.type_refs))
+          → v ≡ verdict_of (tail_faults (module_in ws) (func_of ws c))
       unfolding tail_faults
       tail_third z h =
           verdict_then (concat_map (value_faults (module_in ws)) (func_of ws c).captures) _ e first
-          (verdict_then (concat_map (string_faults (module_in ws)) (func_of ws c).names) (concat_map (type_ref_faults (module_in ws)) (func_of ws c).type_refs) z (l ∙ ap verdict_of names_faults_lem)
+          (verdict_then (concat_map (string_faults (module_in ws)) (func_of ws c).names)
+          (concat_map (type_ref_faults (module_in ws)) (func_of ws c).type_refs) z (l ∙ ap verdict_of names_faults_lem)
           (h ∙ ap verdict_of refs_faults))
 
 pub ruleset tailing = (tail_stop, tail_second, tail_third)
 
 -- ── call shapes, then those ──
 
-module _ (ws : List ℕ) (c : Frame) (x : Framed ws c) {r : Verdict} (k : r ≡ verdict_of (list_faults (shape_faults (module_in ws)) (list_of (list_of arg_of) ws c.body.shapes))) where
+module _ (ws : List ℕ) (c : Frame) (x : Framed ws c) {r : Verdict}
+    (k : r ≡ verdict_of (list_faults (shape_faults (module_in ws)) (list_of (list_of arg_of) ws c.body.shapes))) where
   shapes_first : r ≡ verdict_of (concat_map (shape_faults (module_in ws)) (func_of ws c).shapes)
-  shapes_first = k ∙ ap verdict_of (listed (list_of arg_of) (shape_faults (module_in ws)) ws c.body.shapes (func_of ws c).shapes c.body.captures x.placed.shapes)
+  shapes_first = k
+      ∙ ap verdict_of
+      (listed (list_of arg_of) (shape_faults (module_in ws)) ws c.body.shapes (func_of ws c).shapes c.body.captures x.placed.shapes)
 
-  pub lists_stop : {b : LoadErrorKind} → r ≡ Broken b → Broken b ≡ verdict_of (lists_faults (module_in ws) (func_of ws c))
+  pub lists_stop : {b : LoadErrorKind} → r ≡ Err b → Err b ≡ verdict_of (lists_faults (module_in ws) (func_of ws c))
   unfolding lists_faults
-  lists_stop {b} e = verdict_stop (concat_map (shape_faults (module_in ws)) (func_of ws c).shapes) (tail_faults (module_in ws) (func_of ws c)) b e shapes_first
+  lists_stop {b} e = verdict_stop (concat_map (shape_faults (module_in ws)) (func_of ws c).shapes)
+      (tail_faults (module_in ws) (func_of ws c)) b e shapes_first
 
-  pub lists_then : {v : Verdict} → r ≡ Holds → v ≡ verdict_of (tail_faults (module_in ws) (func_of ws c)) → v ≡ verdict_of (lists_faults (module_in ws) (func_of ws c))
+  pub lists_then : {v : Verdict} → r ≡ Ok tt → v ≡ verdict_of (tail_faults (module_in ws) (func_of ws c))
+      → v ≡ verdict_of (lists_faults (module_in ws) (func_of ws c))
   unfolding lists_faults
-  lists_then e h = verdict_then (concat_map (shape_faults (module_in ws)) (func_of ws c).shapes) (tail_faults (module_in ws) (func_of ws c)) e shapes_first h
+  lists_then e h = verdict_then (concat_map (shape_faults (module_in ws)) (func_of ws c).shapes)
+      (tail_faults (module_in ws) (func_of ws c)) e shapes_first h
 
 -- ── signature, registers, parameters ──
 
@@ -159,18 +182,19 @@ module _ (ws : List ℕ) (c : Frame) (x : Framed ws c) {r : Verdict} (k : r ≡ 
   sig_first : r ≡ verdict_of (signature_faults (module_in ws) (func_of ws c).sig)
   sig_first = k ∙ ap (λ t. verdict_of (signature_faults (module_in ws) t)) x.placed.sig
 
-  pub head_stop : {b : LoadErrorKind} → r ≡ Broken b → Broken b ≡ verdict_of (head_faults (module_in ws) (func_of ws c))
+  pub head_stop : {b : LoadErrorKind} → r ≡ Err b → Err b ≡ verdict_of (head_faults (module_in ws) (func_of ws c))
   unfolding head_faults
   head_stop {b} e = verdict_stop (signature_faults (module_in ws) (func_of ws c).sig) _ b e sig_first
 
-  module _ (e : r ≡ Holds) {s : Verdict} (l : s ≡ verdict_of (registers_faults (module_in ws) (func_of ws c))) where
-    pub head_second : {b : LoadErrorKind} → s ≡ Broken b → Broken b ≡ verdict_of (head_faults (module_in ws) (func_of ws c))
+  module _ (e : r ≡ Ok tt) {s : Verdict} (l : s ≡ verdict_of (registers_faults (module_in ws) (func_of ws c))) where
+    pub head_second : {b : LoadErrorKind} → s ≡ Err b → Err b ≡ verdict_of (head_faults (module_in ws) (func_of ws c))
     unfolding head_faults
     head_second {b} z =
         verdict_then (signature_faults (module_in ws) (func_of ws c).sig) _ e sig_first
         (verdict_stop (registers_faults (module_in ws) (func_of ws c)) (params_faults (module_in ws) (func_of ws c)) b z l)
 
-    pub head_third : {v : Verdict} → s ≡ Holds → v ≡ verdict_of (params_faults (module_in ws) (func_of ws c)) → v ≡ verdict_of (head_faults (module_in ws) (func_of ws c))
+    pub head_third : {v : Verdict} → s ≡ Ok tt → v ≡ verdict_of (params_faults (module_in ws) (func_of ws c))
+        → v ≡ verdict_of (head_faults (module_in ws) (func_of ws c))
     unfolding head_faults
     head_third z h =
         verdict_then (signature_faults (module_in ws) (func_of ws c).sig) _ e sig_first

@@ -9,7 +9,7 @@ ghost use Rattle.rule_signatures.specs.Signature.{HasSig};
 ghost use Rattle.rule_frames.specs.Frames.{func_of, Framed};
 ghost use Rattle.rule6_records.specs.Records.{registers_faults, params_faults, head_faults, tail_faults, lists_faults};
 
-use error::{LoadErrorKind, Verdict, What};
+use error::{LoadErrorKind, What};
 use open_sheet::Opened;
 use rule_frames::Frame;
 use rule_lists::{check_params, check_shapes};
@@ -19,25 +19,25 @@ use rule_values::numbers::{check_strings, check_type_refs};
 use rule6_registers::params_first;
 
 // Register types, then their number.
-fn check_registers(sheet: &[u8], o: Opened, c: Frame) -> Verdict
+fn check_registers(sheet: &[u8], o: Opened, c: Frame) -> Result<(), LoadErrorKind>
     requires opens { Opens (sheet_words sheet.now o) o }
     requires framed { Framed (sheet_words sheet.now o) c }
     ensures { result ≡ verdict_of (registers_faults (module_of sheet.now o) (func_of (sheet_words sheet.now o) c)) }
 {
-    match check_values(sheet, o, c.body.regs) {
-        Verdict::Holds => {}
-        Verdict::Broken(k) => {
-            return Verdict::Broken(k);
-        }
+    check_values(sheet, o, c.body.regs)?;
+    if 65536 < c.regs {
+        return Err(LoadErrorKind::OutOfRange(What::Registers, c.regs));
     }
-    if c.regs <= 65536 {
-        return Verdict::Holds;
-    }
-    Verdict::Broken(LoadErrorKind::OutOfRange(What::Registers, c.regs))
+    Ok(())
 }
 
 // The signature's parameters are the first registers, and fit the parameter list.
-fn check_sig_params(sheet: &[u8], work: &mut [u32], o: Opened, c: Frame) -> Verdict
+fn check_sig_params(
+    sheet: &[u8],
+    work: &mut [u32],
+    o: Opened,
+    c: Frame,
+) -> Result<(), LoadErrorKind>
     requires ready { Ready (sheet_words sheet.now o) work.old o }
     requires framed { Framed (sheet_words sheet.now o) c }
     requires o_value { types_faults (module_of sheet.now o) ≡ [] }
@@ -47,68 +47,43 @@ fn check_sig_params(sheet: &[u8], work: &mut [u32], o: Opened, c: Frame) -> Verd
     ensures work_unchanged { work.new ≡ work.old }
 {
     let p = params_at(sheet, work, o, c.body.sig);
-    if params_first(sheet, work, o, p, c.body.regs) {
-        return check_params(sheet, work, o, c.body.params, p);
+    if !params_first(sheet, work, o, p, c.body.regs) {
+        return Err(LoadErrorKind::ParamMismatch);
     }
-    Verdict::Broken(LoadErrorKind::ParamMismatch)
+    check_params(sheet, work, o, c.body.params, p)
 }
 
 // Signature, registers, parameters.
-pub fn check_head(sheet: &[u8], work: &mut [u32], o: Opened, c: Frame) -> Verdict
+pub fn check_head(sheet: &[u8], work: &mut [u32], o: Opened, c: Frame) -> Result<(), LoadErrorKind>
     requires ready { Ready (sheet_words sheet.now o) work.old o }
     requires framed { Framed (sheet_words sheet.now o) c }
     requires o_value { types_faults (module_of sheet.now o) ≡ [] }
     ensures value { result ≡ verdict_of (head_faults (module_of sheet.now o) (func_of (sheet_words sheet.now o) c)) }
     ensures work_unchanged { work.new ≡ work.old }
 {
-    match check_signature(sheet, work, o, c.body.sig) {
-        Verdict::Holds => {}
-        Verdict::Broken(k) => {
-            return Verdict::Broken(k);
-        }
-    }
-    match check_registers(sheet, o, c) {
-        Verdict::Holds => {}
-        Verdict::Broken(k) => {
-            return Verdict::Broken(k);
-        }
-    }
+    check_signature(sheet, work, o, c.body.sig)?;
+    check_registers(sheet, o, c)?;
     check_sig_params(sheet, work, o, c)
 }
 
 // Captures, names, type refs.
-fn check_tail(sheet: &[u8], o: Opened, c: Frame) -> Verdict
+fn check_tail(sheet: &[u8], o: Opened, c: Frame) -> Result<(), LoadErrorKind>
     requires opens { Opens (sheet_words sheet.now o) o }
     requires framed { Framed (sheet_words sheet.now o) c }
     ensures { result ≡ verdict_of (tail_faults (module_of sheet.now o) (func_of (sheet_words sheet.now o) c)) }
 {
-    match check_values(sheet, o, c.body.captures) {
-        Verdict::Holds => {}
-        Verdict::Broken(k) => {
-            return Verdict::Broken(k);
-        }
-    }
-    match check_strings(sheet, o, c.body.names) {
-        Verdict::Holds => {}
-        Verdict::Broken(k) => {
-            return Verdict::Broken(k);
-        }
-    }
+    check_values(sheet, o, c.body.captures)?;
+    check_strings(sheet, o, c.body.names)?;
     check_type_refs(sheet, o, c.body.type_refs)
 }
 
 // Call shapes, then the lists after them.
-pub fn check_lists(sheet: &[u8], work: &mut [u32], o: Opened, c: Frame) -> Verdict
+pub fn check_lists(sheet: &[u8], work: &mut [u32], o: Opened, c: Frame) -> Result<(), LoadErrorKind>
     requires ready { Ready (sheet_words sheet.now o) work.old o }
     requires framed { Framed (sheet_words sheet.now o) c }
     ensures value { result ≡ verdict_of (lists_faults (module_of sheet.now o) (func_of (sheet_words sheet.now o) c)) }
     ensures work_unchanged { work.new ≡ work.old }
 {
-    match check_shapes(sheet, work, o, c.body.shapes) {
-        Verdict::Holds => {}
-        Verdict::Broken(k) => {
-            return Verdict::Broken(k);
-        }
-    }
+    check_shapes(sheet, work, o, c.body.shapes)?;
     check_tail(sheet, o, c)
 }

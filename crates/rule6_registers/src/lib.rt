@@ -46,14 +46,12 @@ pub fn params_first(sheet: &[u8], work: &[u32], o: Opened, params_at: usize, reg
     if regs < params {
         return false;
     }
-    let mut i = 0;
-    while i < params {
+    for i in 0..params {
         let p = canon_at(sheet, work, o, params_at + 1 + i);
         let r = canon_at(sheet, work, o, regs_at + 1 + i);
         if p != r {
             return false;
         }
-        i += 1;
     }
     true
 }

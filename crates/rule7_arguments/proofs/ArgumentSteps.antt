@@ -1,9 +1,9 @@
 -- Mandatory parameters counted, list by list; and a word for each import.
 use Prim.Native.Nat.{ℕ, ◌+◌, ◌-◌, ◌*◌, ◌/◌, ◌%◌, ◌≤◌, ◌<◌}
-use mathlib.Core.Path.{◌≡◌, refl, sym, ap, ◌∙◌}
+use mathlib.Core.Path.{◌≡◌, refl, sym, ap, ap₂, ◌∙◌}
 use mathlib.Core.List.{List, [], ◌∷◌, map}
 use mathlib.Core.Bool.{Bool, true, false, cond, not}
-use mathlib.Core.Option.{none}
+use Rattle.std.specs.Prelude.{None}
 use native.Mathlib.Omega.{arith}
 use lib.Dec.{eqb}
 use lib.ListN.{length, get_or, set}
@@ -50,32 +50,43 @@ one_most flags e = omega (arith, e, go (eqb (flags / 2 % 2) 1))
 
 -- ── the loop through a list: those found, and those ahead ──
 
-pub record Counting (ws : List ℕ) (n count from left p found : ℕ) : Type 0 where
-  pub inside : p + 2 * left ≤ n
-  pub room : found + left ≤ count
-  pub total : found + mandatory_in (pairs_at ws left p) ≡ mandatory_in (pairs_at ws count from)
+pub record Counting (ws : List ℕ) (n count from i found : ℕ) : Type 0 where
+  pub inside : from + 2 * count ≤ n
+  pub room : found ≤ i
+  pub total : found + mandatory_in (pairs_at ws (count - i) (from + 2 * i)) ≡ mandatory_in (pairs_at ws count from)
 
 module _ (ws : List ℕ) (n count from : ℕ) where
-  pub counting_start : from + 2 * count ≤ n → Counting ws n count from count from 0
-  counting_start h = record { inside = h; room = omega arith; total = omega arith }
+  pub counting_start : from + 2 * count ≤ n → Counting ws n count from 0 0
+  counting_start h =
+      let z : count - 0 ≡ count = omega arith in
+      let y : from + 2 * 0 ≡ from = omega arith in
+      record { inside = h; room = omega arith; total = omega (arith, ap₂ (λ c p. mandatory_in (pairs_at ws c p)) z y) }
 
-  module _ (left p found : ℕ) (x : Counting ws n count from left p found) where
-    pub counting_inside : p + 2 * left ≤ n
+  module _ (i found : ℕ) (x : Counting ws n count from i found) where
+    pub counting_inside : from + 2 * count ≤ n
     counting_inside = x.inside
 
-    pub counting_end : left ≤ 0 → found ≡ mandatory_in (pairs_at ws count from)
+    pub counting_end : count ≤ i → found ≡ mandatory_in (pairs_at ws count from)
     unfolding mandatory_in
-    counting_end h = omega (arith, x.total, ap mandatory_in (pairs_none ws left p h))
+    counting_end h = omega (arith, x.total, ap mandatory_in (pairs_none ws (count - i) (from + 2 * i) (omega arith)))
 
-    module _ (h : 0 < left) {flags one : ℕ} (e : flags ≡ get_or ws p 0) (f : one ≡ mandatory_one flags) where
-      pub counting_next : Counting ws n count from (left - 1) (p + 2) (found + one)
+    module _ (h : i < count) {flags one : ℕ} (e : flags ≡ get_or ws (from + 2 * i) 0) (f : one ≡ mandatory_one flags) where
+      pub counting_next : Counting ws n count from (i + 1) (found + one)
       unfolding mandatory_in
       counting_next =
-          let z : one ≡ mandatory_one (get_or ws p 0) = f ∙ ap mandatory_one e in
+          let z : one ≡ mandatory_one (get_or ws (from + 2 * i) 0) = f ∙ ap mandatory_one e in
+          let c : count - i - 1 ≡ count - (i + 1) = omega arith in
+          let p : from + 2 * i + 2 ≡ from + 2 * (i + 1) = omega arith in
           record {
-            inside = omega (arith, x.inside);
+            inside = x.inside;
             room = omega (arith, x.room, one_most flags f);
-            total = omega (arith, x.total, ap mandatory_in (pairs_first ws left p h), z);
+            total = omega (
+              arith,
+              x.total,
+              ap mandatory_in (pairs_first ws (count - i) (from + 2 * i) (omega arith)),
+              ap₂ (λ k q. mandatory_in (pairs_at ws k q)) c p,
+              z,
+            );
           }
 
 -- ── as the definitions have it ──
@@ -97,7 +108,7 @@ module _ (b : List ℕ) (n at : ℕ) (h : Whole (param_list (first_words b n) at
     pub listed_inside : at + 2 + 2 * count ≤ n
     listed_inside = omega (arith, pairs_inside param_of to_param param_words b n (at + 1) (params_whole b n at h e z) f)
 
-    listed : (k : ℕ) → mandatory (value_of none (param_list (first_words b n) at)) k ≡ mandatory_in (pairs_at (words b) count (at + 2))
+    listed : (k : ℕ) → mandatory (value_of None (param_list (first_words b n) at)) k ≡ mandatory_in (pairs_at (words b) count (at + 2))
     unfolding mandatory
     listed k =
         let place : at + 1 + 1 ≡ at + 2 = omega arith in
@@ -108,7 +119,7 @@ module _ (b : List ℕ) (n at : ℕ) (h : Whole (param_list (first_words b n) at
         ∙ sym (kept (pairs_at (words b) count (at + 1 + 1)))
         ∙ ap (λ (p : ℕ). mandatory_in (pairs_at (words b) count p)) place
 
-  unlisted : w ≡ 0 → (k : ℕ) → mandatory (value_of none (param_list (first_words b n) at)) k ≡ k
+  unlisted : w ≡ 0 → (k : ℕ) → mandatory (value_of None (param_list (first_words b n) at)) k ≡ k
   unfolding mandatory
   unlisted z k = ap (λ (l : ParamList). mandatory l k) (no_params b n at h e z)
 
@@ -135,9 +146,9 @@ module _ (b w : List ℕ) (o : Opened) (x : Ready (first_words b o.layout.words)
     pub fewest_whole : leaves ≡ false → {r : ℕ} → r ≡ most_arguments m (import_at m j) → r ≡ fewest_arguments m (import_at m j)
     fewest_whole e h = h ∙ sym (fewest_all m (import_at m j) (leaves_here false e))
 
-    module _ (e : leaves ≡ true) (at : ℕ) (l : Whole (param_list ws at)) (v : value_of none (param_list ws at) ≡ (import_at m j).params)
+    module _ (e : leaves ≡ true) (at : ℕ) (l : Whole (param_list ws at)) (v : value_of None (param_list ws at) ≡ (import_at m j).params)
         {k : ℕ} (f : k ≡ get_or (words b) at 0) where
-      by_list : mandatory (value_of none (param_list ws at)) (most_arguments m (import_at m j)) ≡ fewest_arguments m (import_at m j)
+      by_list : mandatory (value_of None (param_list ws at)) (most_arguments m (import_at m j)) ≡ fewest_arguments m (import_at m j)
       by_list =
           ap (λ (l : ParamList). mandatory l (most_arguments m (import_at m j))) v
           ∙ sym (fewest_mandatory m (import_at m j) (leaves_here true e))

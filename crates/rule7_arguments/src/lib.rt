@@ -37,13 +37,9 @@ fn count_mandatory(sheet: &[u8], n: usize, from: usize, count: u32) -> u32
     requires { from + 2 * count ≤ n }
     ensures { result ≡ mandatory_in (pairs_at (words sheet.now) count from) }
 {
-    let mut left = count;
-    let mut p = from;
     let mut found = 0;
-    while 0 < left {
-        found += mandatory_one(word(sheet, p));
-        p += 2;
-        left -= 1;
+    for i in 0..count {
+        found += mandatory_one(word(sheet, from + 2 * i as usize));
     }
     found
 }
@@ -72,10 +68,8 @@ pub fn index_fewest(sheet: &[u8], work: &mut [u32], o: Opened)
     ensures fewest { Fewest (sheet_words sheet.now o) work.new o }
 {
     let base = 4 * o.layout.words + o.counts.funcs as usize;
-    let mut j = 0;
-    while j < o.counts.imports {
+    for j in 0..o.counts.imports {
         work[base + j as usize] = fewest_of(sheet, work, o, j);
-        j += 1;
     }
 }
 

@@ -9,8 +9,8 @@ use Rattle.blocks.specs.Frame.{first_words}
 use Rattle.blocks.proofs.FirstWords.{length_first_words}
 use Rattle.error.specs.declared.LoadErrorKind.{LoadErrorKind}
 use Rattle.error.specs.declared.LoadErrorKind.TheVariants.{CalleeHasCaptures}
-use Rattle.error.specs.declared.Verdict.{Verdict}
-use Rattle.error.specs.declared.Verdict.TheVariants.{Holds, Broken}
+use Rattle.error.specs.Verdict.{Verdict}
+use Rattle.std.specs.Prelude.{Err, Ok}
 use Rattle.error.specs.Answer.{unless}
 use Rattle.error.specs.Verdict.{verdict_of}
 use Rattle.error.specs.VerdictLaws.{verdict_then, verdict_stop}
@@ -80,23 +80,23 @@ module _ (b w : List ℕ) (o : Opened) (c : Frame) (x : Checkable (first_words b
       abbrev others : List LoadErrorKind
       others = unless (no_captures (func_at m g)) CalleeHasCaptures
 
-      pub direct_window : (k : LoadErrorKind) → v ≡ Broken k → Broken k ≡ verdict_of (direct_faults m f g first n)
+      pub direct_window : (k : LoadErrorKind) → v ≡ Err k → Err k ≡ verdict_of (direct_faults m f g first n)
       unfolding direct_faults
       direct_window k e =
           let xs = window_faults f first n in
           let ys = arity_faults params params n in
           verdict_stop (xs ++ ys) others k refl (verdict_stop xs ys k e window)
 
-      module _ (e : v ≡ Holds) {p : ℕ} (y : p ≡ params) {u : Verdict} (z : u ≡ verdict_of (arity_faults p p n)) where
+      module _ (e : v ≡ Ok tt) {p : ℕ} (y : p ≡ params) {u : Verdict} (z : u ≡ verdict_of (arity_faults p p n)) where
         both : u ≡ verdict_of (window_faults f first n ++ arity_faults params params n)
         both =
             verdict_then (window_faults f first n) (arity_faults params params n) e window (z ∙ ap (λ k. verdict_of (arity_faults k k n)) y)
 
-        pub direct_arity : (k : LoadErrorKind) → u ≡ Broken k → Broken k ≡ verdict_of (direct_faults m f g first n)
+        pub direct_arity : (k : LoadErrorKind) → u ≡ Err k → Err k ≡ verdict_of (direct_faults m f g first n)
         unfolding direct_faults
         direct_arity k a = verdict_stop (window_faults f first n ++ arity_faults params params n) others k a both
 
-        pub direct_captures : {k : ℕ} {r : Verdict} → g < o.counts.funcs → u ≡ Holds → k ≡ get_or w (4 * o.layout.words + g) 0 →
+        pub direct_captures : {k : ℕ} {r : Verdict} → g < o.counts.funcs → u ≡ Ok tt → k ≡ get_or w (4 * o.layout.words + g) 0 →
             r ≡ verdict_of (capture_faults k) → r ≡ verdict_of (direct_faults m f g first n)
         unfolding direct_faults capture_faults no_captures func_at
         direct_captures {k} l a t q =
@@ -110,11 +110,11 @@ module _ (b w : List ℕ) (o : Opened) (c : Frame) (x : Checkable (first_words b
       abbrev i : Import
       i = import_at m j
 
-      pub import_window : (k : LoadErrorKind) → v ≡ Broken k → Broken k ≡ verdict_of (import_call_faults m f j first n)
+      pub import_window : (k : LoadErrorKind) → v ≡ Err k → Err k ≡ verdict_of (import_call_faults m f j first n)
       unfolding import_call_faults
       import_window k e = verdict_stop (window_faults f first n) (arity_faults (fewest_arguments m i) (most_arguments m i) n) k e window
 
-      pub import_arity : v ≡ Holds → {least most : ℕ} {r : Verdict} → j < o.counts.imports → least ≡ get_or w (fewest_at o + j) 0 →
+      pub import_arity : v ≡ Ok tt → {least most : ℕ} {r : Verdict} → j < o.counts.imports → least ≡ get_or w (fewest_at o + j) 0 →
           most ≡ most_arguments m i → r ≡ verdict_of (arity_faults least most n) → r ≡ verdict_of (import_call_faults m f j first n)
       unfolding import_call_faults
       import_arity e l a b z =

@@ -11,7 +11,7 @@ use Rattle.blocks.specs.Frame.{first_words}
 use Rattle.error.specs.declared.TypeKind.{TypeKind}
 use Rattle.error.specs.declared.TypeKind.TheVariants.{Struct, Array, Map, Cell}
 use Rattle.error.specs.declared.LoadErrorKind.TheVariants.{WrongTypeKind}
-use Rattle.error.specs.declared.Verdict.TheVariants.{Holds, Broken}
+use Rattle.std.specs.Prelude.{Err, Ok}
 use Rattle.error.specs.Answer.{type_kind_word}
 use Rattle.error.specs.Verdict.{verdict_of}
 use Rattle.sheet.specs.Module.{coroutine, type_at, kind_word}
@@ -72,10 +72,10 @@ module _ (b : List ℕ) (n : ℕ) (c : Frame) (x : Framed (first_words b n) c) (
     is = p ∙ ap (λ y. kind_word (type_at (module_in (first_words b n)).types y))
         (number_held b n c.body.type_refs (func_of (first_words b n) c).type_refs c.body.handlers x.placed.type_refs i (omega (arith, x.type_refs)) e)
 
-    pub kind_holds : u ≡ v → Holds ≡ verdict_of (wanted_faults k named)
+    pub kind_holds : u ≡ v → Ok tt ≡ verdict_of (wanted_faults k named)
     unfolding wanted_faults
     kind_holds y = test_holds (eqb named (type_kind_word k)) (WrongTypeKind k) (eq-eqb named (type_kind_word k) (sym is ∙ y ∙ q))
 
-    pub kind_broken : (u ≡ v → ⊥) → Broken (WrongTypeKind k) ≡ verdict_of (wanted_faults k named)
+    pub kind_broken : (u ≡ v → ⊥) → Err (WrongTypeKind k) ≡ verdict_of (wanted_faults k named)
     unfolding wanted_faults
     kind_broken y = test_broken (eqb named (type_kind_word k)) (WrongTypeKind k) (ne_eqb named (type_kind_word k) (λ z. y (is ∙ z ∙ sym q)))

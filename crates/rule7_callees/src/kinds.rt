@@ -8,7 +8,7 @@ ghost use Rattle.rule_frames.specs.Frames.{func_of, Framed};
 ghost use Rattle.rule7_callees.specs.Callees.{wanted_faults};
 
 use blocks::word;
-use error::{LoadErrorKind, TypeId, TypeKind, Verdict};
+use error::{LoadErrorKind, TypeId, TypeKind};
 use open_sheet::{Opened, type_at};
 use rule_frames::Frame;
 
@@ -42,7 +42,7 @@ pub fn check_kind(
     c: Frame,
     b: u32,
     wanted: TypeKind,
-) -> Verdict
+) -> Result<(), LoadErrorKind>
     requires ready { Ready (sheet_words sheet.now o) work.now o }
     requires framed { Framed (sheet_words sheet.now o) c }
     requires b_bound { b < c.type_refs }
@@ -50,7 +50,7 @@ pub fn check_kind(
 {
     let t = word(sheet, c.body.type_refs + 1 + b as usize);
     if type_kind(sheet, work, o, TypeId(t)) == wanted_word(wanted) {
-        return Verdict::Holds;
+        return Ok(());
     }
-    Verdict::Broken(LoadErrorKind::WrongTypeKind(wanted))
+    Err(LoadErrorKind::WrongTypeKind(wanted))
 }

@@ -13,7 +13,7 @@ ghost use Rattle.rule7_callees.specs.Callees.{Checkable};
 pub mod kinds;
 
 use blocks::word;
-use error::{FuncId, TypeId, Verdict};
+use error::{FuncId, LoadErrorKind, TypeId};
 use open_sheet::{Opened, func_at};
 use rule_frames::Frame;
 use rule_signatures::param_count;
@@ -55,26 +55,16 @@ pub fn check_direct(
     g: FuncId,
     first: u32,
     n: u32,
-) -> Verdict
+) -> Result<(), LoadErrorKind>
     requires checkable { Checkable (sheet_words sheet.now o) work.now o c }
     requires g_lt_funcs { g.0 < o.counts.funcs }
     requires first_bound { first ≤ 65536 }
     requires n_bound { n ≤ 520192 }
     ensures { result ≡ verdict_of (direct_faults (module_of sheet.now o) (func_of (sheet_words sheet.now o) c) g.0 first n) }
 {
-    match check_window(c, first, n) {
-        Verdict::Holds => {}
-        Verdict::Broken(k) => {
-            return Verdict::Broken(k);
-        }
-    }
+    check_window(c, first, n)?;
     let params = callee_params(sheet, work, o, g);
-    match check_arity(params, params, n) {
-        Verdict::Holds => {}
-        Verdict::Broken(k) => {
-            return Verdict::Broken(k);
-        }
-    }
+    check_arity(params, params, n)?;
     check_captures(capture_count(work, o, g))
 }
 
@@ -87,19 +77,14 @@ pub fn check_import(
     j: u32,
     first: u32,
     n: u32,
-) -> Verdict
+) -> Result<(), LoadErrorKind>
     requires checkable { Checkable (sheet_words sheet.now o) work.now o c }
     requires j_lt_imports { j < o.counts.imports }
     requires first_bound { first ≤ 65536 }
     requires n_bound { n ≤ 520192 }
     ensures { result ≡ verdict_of (import_call_faults (module_of sheet.now o) (func_of (sheet_words sheet.now o) c) j first n) }
 {
-    match check_window(c, first, n) {
-        Verdict::Holds => {}
-        Verdict::Broken(k) => {
-            return Verdict::Broken(k);
-        }
-    }
+    check_window(c, first, n)?;
     let fewest = fewest_arguments(work, o, j);
     let most = most_arguments(sheet, work, o, j);
     check_arity(fewest, most, n)

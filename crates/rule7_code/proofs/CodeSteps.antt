@@ -7,8 +7,8 @@ use lib.ListN.{length}
 use Rattle.blocks.specs.Frame.{first_words}
 use Rattle.error.specs.declared.FuncId.{FuncId}
 use Rattle.error.specs.declared.LoadError.{LoadError}
-use Rattle.error.specs.declared.Judged.{Judged}
-use Rattle.error.specs.declared.Judged.TheVariants.{Passed, Refused}
+use Rattle.error.specs.Verdict.{Judged}
+use Rattle.std.specs.Prelude.{Err, Ok}
 use Rattle.error.specs.Answer.{in_function}
 use Rattle.error.specs.Verdict.{judged_of}
 use Rattle.error.specs.VerdictLaws.{none_refused, judged_then, judged_stop}
@@ -36,7 +36,7 @@ map_none : {A B : Type 0} (g : A → B) (xs : List A) → map g xs ≡ [] → xs
 map_none g [] e = refl
 map_none g (x ∷ xs) e = let z : ◌≡◌ {A = ℕ} 0 1 = cc in absurd (omega arith)
 
-pub parts_handlers : (n : ℕ) (f : Func) {r : Judged} → r ≡ Passed → r ≡ judged_of (parts_faults n f) → handlers_faults f ≡ []
+pub parts_handlers : (n : ℕ) (f : Func) {r : Judged} → r ≡ Ok tt → r ≡ judged_of (parts_faults n f) → handlers_faults f ≡ []
 unfolding parts_faults
 parts_handlers n f e k =
     map_none (in_function n) (handlers_faults f)
@@ -54,12 +54,12 @@ module _ (ws : List ℕ) (c : frames.Frame) (f : FuncId) {r : Judged} (h : c.fun
   unfolding func_of
   same_func = ap (λ (g : FuncId). code_faults (module_in ws) g.0 (func_at (module_in ws) g.0)) h
 
-  pub code_stop : {d : LoadError} → r ≡ Refused d → Refused d ≡ judged_of (code_faults (module_in ws) f.0 (func_at (module_in ws) f.0))
+  pub code_stop : {d : LoadError} → r ≡ Err d → Err d ≡ judged_of (code_faults (module_in ws) f.0 (func_at (module_in ws) f.0))
   code_stop {d} e =
       judged_stop (parts_faults c.func.0 (func_of ws c)) (insts_faults (module_in ws) c.func.0 (func_of ws c)) d e k
       ∙ sym (ap judged_of (joined (module_in ws) c.func.0 (func_of ws c))) ∙ ap judged_of same_func
 
-  pub code_last : {x : Judged} → r ≡ Passed → x ≡ judged_of (insts_faults (module_in ws) c.func.0 (func_of ws c)) → x ≡ judged_of (code_faults (module_in ws) f.0 (func_at (module_in ws) f.0))
+  pub code_last : {x : Judged} → r ≡ Ok tt → x ≡ judged_of (insts_faults (module_in ws) c.func.0 (func_of ws c)) → x ≡ judged_of (code_faults (module_in ws) f.0 (func_at (module_in ws) f.0))
   code_last e z =
       judged_then (parts_faults c.func.0 (func_of ws c)) (insts_faults (module_in ws) c.func.0 (func_of ws c)) e k z
       ∙ sym (ap judged_of (joined (module_in ws) c.func.0 (func_of ws c))) ∙ ap judged_of same_func
@@ -139,7 +139,7 @@ module _ (ws w₀ : List ℕ) (o : Opened) where
     pub coded_tallied : Tallied ws w o
     coded_tallied = x.tallied
 
-    pub coded_end : o.counts.funcs ≤ f → Passed ≡ judged_of (codes_faults (module_in ws))
+    pub coded_end : o.counts.funcs ≤ f → Ok tt ≡ judged_of (codes_faults (module_in ws))
     unfolding codes_faults
     coded_end h = clears_passed (code_faults (module_in ws)) (module_in ws).funcs f x.clears (omega (arith, count_funcs ws o x.ready.opens))
 
@@ -150,7 +150,7 @@ module _ (ws w₀ : List ℕ) (o : Opened) where
       pub coded_on : Above o w₀ v
       coded_on = above_then o w₀ w v x.above a
 
-      pub coded_next : r ≡ Passed → Coded ws w₀ v o (f + 1)
+      pub coded_next : r ≡ Ok tt → Coded ws w₀ v o (f + 1)
       unfolding func_at
       coded_next e = record {
         ready = ready_above o ws w v x.ready a;
@@ -159,7 +159,7 @@ module _ (ws w₀ : List ℕ) (o : Opened) where
         clears = clears_on (code_faults (module_in ws)) (module_in ws).funcs f x.clears no_func below e k;
       }
 
-      pub coded_stop : {d : LoadError} → r ≡ Refused d → Refused d ≡ judged_of (codes_faults (module_in ws))
+      pub coded_stop : {d : LoadError} → r ≡ Err d → Err d ≡ judged_of (codes_faults (module_in ws))
       unfolding codes_faults func_at
       coded_stop e = clears_refused (code_faults (module_in ws)) (module_in ws).funcs f x.clears no_func below e k
 

@@ -9,9 +9,9 @@ use lib.ListN.{length, get_or}
 use Rattle.lists.specs.Lists.{any_of}
 use Rattle.blocks.specs.Frame.{first_words}
 use Rattle.error.specs.declared.LoadError.{LoadError}
-use Rattle.error.specs.declared.Verdict.{Verdict}
-use Rattle.error.specs.declared.Judged.{Judged}
-use Rattle.error.specs.declared.Judged.TheVariants.{Passed, Refused}
+use Rattle.error.specs.Verdict.{Verdict}
+use Rattle.error.specs.Verdict.{Judged}
+use Rattle.std.specs.Prelude.{Err, Ok}
 use Rattle.error.specs.Answer.{at_position}
 use Rattle.error.specs.Verdict.{verdict_of, judged_of, placed}
 use Rattle.error.specs.VerdictLaws.{placed_faults_lem}
@@ -47,7 +47,7 @@ pub sweeps_room : (b w : List ℕ) (o : Opened) (c : Frame) (pc : ℕ) → Ready
 sweeps_room b w o c pc r x h = omega (arith, r.room, code_inside b o.layout.words c x)
 
 module _ (b w : List ℕ) (o : Opened) (c : Frame) (x : Framed (first_words b o.layout.words) c) (pc reach : ℕ) (s : Sweeps (first_words b o.layout.words) c pc reach) where
-  pub sweeps_end : c.code ≤ pc → Passed ≡ judged_of (insts_faults (module_in (first_words b o.layout.words)) c.func.0 (func_of (first_words b o.layout.words) c))
+  pub sweeps_end : c.code ≤ pc → Ok tt ≡ judged_of (insts_faults (module_in (first_words b o.layout.words)) c.func.0 (func_of (first_words b o.layout.words) c))
   unfolding insts_faults
   sweeps_end h =
       let ws = first_words b o.layout.words in
@@ -79,7 +79,7 @@ module _ (b w : List ℕ) (o : Opened) (c : Frame) (x : Framed (first_words b o.
           (k ∙ ap₂ (λ (q : Bool) (i : Module.Inst). verdict_of (fields_faults m f (row (opcode i)) i ++ rule_faults m f q i (row (opcode i)).rule)) a (inst_value b o.layout.words c x pc h))
           z
 
-      pub sweeps_next : j ≡ Passed → Sweeps (first_words b o.layout.words) c (pc + 1) far
+      pub sweeps_next : j ≡ Ok tt → Sweeps (first_words b o.layout.words) c (pc + 1) far
       sweeps_next e =
           let ws = first_words b o.layout.words in
           record {
@@ -87,7 +87,7 @@ module _ (b w : List ℕ) (o : Opened) (c : Frame) (x : Framed (first_words b o.
             far = reaches;
           }
 
-      pub sweeps_stop : {d : LoadError} → j ≡ Refused d → Refused d ≡ judged_of (insts_faults (module_in (first_words b o.layout.words)) c.func.0 (func_of (first_words b o.layout.words) c))
+      pub sweeps_stop : {d : LoadError} → j ≡ Err d → Err d ≡ judged_of (insts_faults (module_in (first_words b o.layout.words)) c.func.0 (func_of (first_words b o.layout.words) c))
       unfolding insts_faults
       sweeps_stop e =
           let ws = first_words b o.layout.words in

@@ -4,6 +4,7 @@ use mathlib.Core.Path.{◌≡◌, refl, sym, ap, ap₂, ◌∙◌}
 use mathlib.Core.List.{List, [], ◌∷◌, ◌++◌}
 use mathlib.Core.Bool.{Bool, true, false, cond, ◌&&◌}
 use native.Mathlib.Omega.{arith}
+use Rattle.std.proofs.Common.{subst}
 use native.Mathlib.Decide.{dec_lt}
 use lib.Dec.{eqb, leb, ltb}
 use lib.ListN.{length, get_or, set}
@@ -216,5 +217,19 @@ module _ (b w₀ w₁ : List ℕ) (o : Opened) (c : frames.Frame) (f : Frame (Of
       let z = marks_end b w₁ o c w left p y h in
       let P = Off (6 * o.layout.words) (6 * o.layout.words + c.code) in
       record { frame = frame_then P P P w₀ w₁ w (λ k t. t) (λ k t. t) f z.frame; ends = z.ends }
+
+-- by number: i were passed
+module _ (ws w₀ w : List ℕ) (o : Opened) (c : frames.Frame) where
+  pub marks_first : Marks ws w₀ w o c c.handlers (c.body.handlers + 1) → Marks ws w₀ w o c (c.handlers - 0) (c.body.handlers + 1 + 4 * 0)
+  marks_first y =
+      let z : c.handlers ≡ c.handlers - 0 = omega arith in
+      let q : c.body.handlers + 1 ≡ c.body.handlers + 1 + 4 * 0 = omega arith in
+      subst (λ k. Marks ws w₀ w o c k (c.body.handlers + 1 + 4 * 0)) z (subst (Marks ws w₀ w o c c.handlers) q y)
+
+  pub marks_step : (i : ℕ) → Marks ws w₀ w o c (c.handlers - i - 1) (c.body.handlers + 1 + 4 * i + 4) → Marks ws w₀ w o c (c.handlers - (i + 1)) (c.body.handlers + 1 + 4 * (i + 1))
+  marks_step i y =
+      let z : c.handlers - i - 1 ≡ c.handlers - (i + 1) = omega arith in
+      let q : c.body.handlers + 1 + 4 * i + 4 ≡ c.body.handlers + 1 + 4 * (i + 1) = omega arith in
+      subst (λ k. Marks ws w₀ w o c k (c.body.handlers + 1 + 4 * (i + 1))) z (subst (Marks ws w₀ w o c (c.handlers - i - 1)) q y)
 
 pub ruleset marking = (marks_room, marks_start, marks_end, marks_under, marks_inside, marks_below, marks_next)

@@ -1,7 +1,7 @@
 // Rule 7 in code: functions by number.
 #![tactic(auto)]
 
-ghost use Rattle.std.specs.Prelude.{◌≡◌, [], ◌+◌, ◌*◌, ◌≤◌, ◌<◌, max, length, get_or, set};
+ghost use Rattle.std.specs.Prelude.{◌≡◌, [], ◌+◌, ◌*◌, ◌≤◌, ◌<◌, length, get_or};
 ghost use Rattle.blocks.specs.Blocks.{words};
 ghost use Rattle.error.specs.Verdict.{judged_of};
 ghost use Rattle.code.specs.Callee.{func_at};
@@ -13,25 +13,12 @@ ghost use Rattle.rule7_parts.specs.CodeParts.{handlers_faults};
 ghost use Rattle.rule7_code.specs.Sweep.{insts_faults, mark_at, Ends, Marked};
 
 use blocks::word;
-use error::{FuncId, Judged, at_position};
+use error::{FuncId, LoadError, at_position};
 use open_sheet::Opened;
 use region::fill;
 use rule_frames::{Frame, index_shapes, open_frame};
 use rule7_inst::check_inst;
 use rule7_parts::check_parts;
-
-fn larger(a: u32, b: u32) -> u32
-    ensures { result ≡ max a b }
-{
-    if a < b { b } else { a }
-}
-
-fn store(work: &mut [u32], k: usize, x: u32)
-    requires { k < length work.old }
-    ensures { work.new ≡ set work.old k x }
-{
-    work[k] = x;
-}
 
 // The word of a handler's start is its end, if that is larger.
 fn mark_handler(sheet: &[u8], work: &mut [u32], o: Opened, c: Frame, at: usize)
@@ -41,8 +28,7 @@ fn mark_handler(sheet: &[u8], work: &mut [u32], o: Opened, c: Frame, at: usize)
     ensures { work.new ≡ mark_at sheet.now at work.old (6 * o.layout.words) }
 {
     let k = 6 * o.layout.words + word(sheet, at) as usize;
-    let end = larger(work[k], word(sheet, at + 1));
-    store(work, k, end);
+    work[k] = work[k].max(word(sheet, at + 1));
 }
 
 // Writes the largest end of the handlers that start at each position, from word 6 * words of work on, and nothing else.
@@ -54,17 +40,13 @@ fn mark_handlers(sheet: &[u8], work: &mut [u32], o: Opened, c: Frame)
     ensures { Marked (sheet_words sheet.now o) work.old work.new o c }
 {
     fill(work, 6 * o.layout.words, c.code as usize, 0);
-    let mut left = c.handlers;
-    let mut p = c.body.handlers + 1;
-    while 0 < left {
-        mark_handler(sheet, work, o, c, p);
-        p += 4;
-        left -= 1;
+    for i in 0..c.handlers {
+        mark_handler(sheet, work, o, c, c.body.handlers + 1 + 4 * i as usize);
     }
 }
 
 // Each instruction; reach is the largest end of the handlers that start at pc or before it.
-fn check_insts(sheet: &[u8], work: &[u32], o: Opened, c: Frame) -> Judged
+fn check_insts(sheet: &[u8], work: &[u32], o: Opened, c: Frame) -> Result<(), LoadError>
     requires ready { Ready (sheet_words sheet.now o) work.now o }
     requires framed { Framed (sheet_words sheet.now o) c }
     requires tallied { Tallied (sheet_words sheet.now o) work.now o }
@@ -74,10 +56,9 @@ fn check_insts(sheet: &[u8], work: &[u32], o: Opened, c: Frame) -> Judged
     requires ends { Ends (sheet_words sheet.now o) work.now o c }
     ensures { result ≡ judged_of (insts_faults (module_of sheet.now o) c.func.0 (func_of (sheet_words sheet.now o) c)) }
 {
-    let mut pc = 0;
-    let mut reach = 0;
-    while pc < c.code {
-        reach = larger(reach, work[6 * o.layout.words + pc as usize]);
+    let mut reach: u32 = 0;
+    for pc in 0..c.code {
+        reach = reach.max(work[6 * o.layout.words + pc as usize]);
         let v = check_inst(
             sheet,
             work,
@@ -86,19 +67,13 @@ fn check_insts(sheet: &[u8], work: &[u32], o: Opened, c: Frame) -> Judged
             c.body.code + 1 + 2 * pc as usize,
             pc < reach,
         );
-        match at_position(v, c.func, pc) {
-            Judged::Passed => {}
-            Judged::Refused(e) => {
-                return Judged::Refused(e);
-            }
-        }
-        pc += 1;
+        at_position(v, c.func, pc)?;
     }
-    Judged::Passed
+    Ok(())
 }
 
 // The instructions of a function whose handlers hold.
-fn sweep_code(sheet: &[u8], work: &mut [u32], o: Opened, c: Frame) -> Judged
+fn sweep_code(sheet: &[u8], work: &mut [u32], o: Opened, c: Frame) -> Result<(), LoadError>
     requires ready { Ready (sheet_words sheet.now o) work.old o }
     requires tallied { Tallied (sheet_words sheet.now o) work.old o }
     requires framed { Framed (sheet_words sheet.now o) c }
@@ -113,7 +88,7 @@ fn sweep_code(sheet: &[u8], work: &mut [u32], o: Opened, c: Frame) -> Judged
 }
 
 // Function f: the last instruction, handlers, tables, each instruction.
-fn check_code(sheet: &[u8], work: &mut [u32], o: Opened, f: FuncId) -> Judged
+fn check_code(sheet: &[u8], work: &mut [u32], o: Opened, f: FuncId) -> Result<(), LoadError>
     requires ready { Ready (sheet_words sheet.now o) work.old o }
     requires tallied { Tallied (sheet_words sheet.now o) work.old o }
     requires f_lt_funcs { f.0 < o.counts.funcs }
@@ -122,32 +97,20 @@ fn check_code(sheet: &[u8], work: &mut [u32], o: Opened, f: FuncId) -> Judged
     ensures above { Above o work.old work.new }
 {
     let c = open_frame(sheet, work, o, f);
-    match check_parts(sheet, o, c) {
-        Judged::Passed => {}
-        Judged::Refused(e) => {
-            return Judged::Refused(e);
-        }
-    }
+    check_parts(sheet, o, c)?;
     sweep_code(sheet, work, o, c)
 }
 
 // All functions by number. Words of work below 6 * words stay as they are.
-pub fn check_codes(sheet: &[u8], work: &mut [u32], o: Opened) -> Judged
+pub fn check_codes(sheet: &[u8], work: &mut [u32], o: Opened) -> Result<(), LoadError>
     requires ready { Ready (sheet_words sheet.now o) work.old o }
     requires tallied { Tallied (sheet_words sheet.now o) work.old o }
     requires words_bound { o.layout.words ≤ 520192 }
     ensures value { result ≡ judged_of (codes_faults (module_of sheet.now o)) }
     ensures above { Above o work.old work.new }
 {
-    let mut f = 0;
-    while f < o.counts.funcs {
-        match check_code(sheet, work, o, FuncId(f)) {
-            Judged::Passed => {}
-            Judged::Refused(e) => {
-                return Judged::Refused(e);
-            }
-        }
-        f += 1;
+    for f in 0..o.counts.funcs {
+        check_code(sheet, work, o, FuncId(f))?;
     }
-    Judged::Passed
+    Ok(())
 }

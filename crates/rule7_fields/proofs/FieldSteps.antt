@@ -8,8 +8,8 @@ use lib.Dec.{ltb}
 use lib.ListN.{get_or}
 use Rattle.error.specs.declared.What.TheVariants.{Functions, Constants, Registers, Imports, Globals, BranchTargets, Tables, Names, TypeRefs, Captures, CallShapes}
 use Rattle.error.specs.declared.LoadErrorKind.{LoadErrorKind}
-use Rattle.error.specs.declared.Verdict.{Verdict}
-use Rattle.error.specs.declared.Verdict.TheVariants.{Holds, Broken}
+use Rattle.error.specs.Verdict.{Verdict}
+use Rattle.std.specs.Prelude.{Err, Ok}
 use Rattle.error.specs.Answer.{unless, in_range}
 use Rattle.error.specs.Verdict.{verdict_of}
 use Rattle.error.specs.VerdictLaws.{verdict_then, verdict_stop}
@@ -31,7 +31,7 @@ module _ (o : Opened) (c : Frame) {kind : FieldKind} (i : ℕ) where
   of_kind_lem : {r : Verdict} → (K : FieldKind) → kind ≡ K → r ≡ verdict_of (kind_faults o c K i) → r ≡ verdict_of (kind_faults o c kind i)
   of_kind_lem K e h = h ∙ ap (λ k. verdict_of (kind_faults o c k i)) (sym e)
 
-  pub kind_unused : kind ≡ FieldKind.Unused → Holds ≡ verdict_of (kind_faults o c kind i)
+  pub kind_unused : kind ≡ FieldKind.Unused → Ok tt ≡ verdict_of (kind_faults o c kind i)
   unfolding verdict_of kind_faults
   kind_unused e = sym (ap (λ k. verdict_of (kind_faults o c k i)) e)
 
@@ -139,6 +139,8 @@ module _ (i : Inst) {slot : Slot} {r : ℕ} where
   unfolding slot_of
   value_c e h = h ∙ ap (λ s. slot_of s (inst i)) (sym e)
 
+pub ruleset values = (value_a, value_b, value_w, value_c)
+
 pub slot_judged : (o : Opened) (c : Frame) (i : Inst) (slot : Slot) {code v : ℕ} {kind : FieldKind} {r : Verdict} → code ≡ opcode (inst i) → kind ≡ kind_in (row code) slot
     → v ≡ slot_of slot (inst i) → r ≡ verdict_of (kind_faults o c kind v) → r ≡ verdict_of (slot_faults o c i slot)
 unfolding slot_faults
@@ -147,27 +149,27 @@ slot_judged o c i slot {code} {v} {kind} e k h x =
     ∙ ap (λ w. verdict_of (kind_faults o c (kind_in (row w) slot) (slot_of slot (inst i)))) e
 
 module _ (o : Opened) (c : Frame) (i : Inst) {a : Verdict} where
-  pub slots_a : (k : LoadErrorKind) → a ≡ Broken k → a ≡ verdict_of (slot_faults o c i A) → Broken k ≡ verdict_of (slots_faults o c i)
+  pub slots_a : (k : LoadErrorKind) → a ≡ Err k → a ≡ verdict_of (slot_faults o c i A) → Err k ≡ verdict_of (slots_faults o c i)
   unfolding slots_faults
   slots_a k e h =
       verdict_stop (slot_faults o c i A ++ slot_faults o c i B ++ slot_faults o c i W) (slot_faults o c i C) k refl
       (verdict_stop (slot_faults o c i A ++ slot_faults o c i B) (slot_faults o c i W) k refl (verdict_stop (slot_faults o c i A) (slot_faults o c i B) k e h))
 
-  module _ (ea : a ≡ Holds) (ha : a ≡ verdict_of (slot_faults o c i A)) where
-    pub slots_b : {b : Verdict} (k : LoadErrorKind) → b ≡ Broken k → b ≡ verdict_of (slot_faults o c i B) → Broken k ≡ verdict_of (slots_faults o c i)
+  module _ (ea : a ≡ Ok tt) (ha : a ≡ verdict_of (slot_faults o c i A)) where
+    pub slots_b : {b : Verdict} (k : LoadErrorKind) → b ≡ Err k → b ≡ verdict_of (slot_faults o c i B) → Err k ≡ verdict_of (slots_faults o c i)
     unfolding slots_faults
     slots_b k e h =
         verdict_stop (slot_faults o c i A ++ slot_faults o c i B ++ slot_faults o c i W) (slot_faults o c i C) k refl
         (verdict_stop (slot_faults o c i A ++ slot_faults o c i B) (slot_faults o c i W) k e (verdict_then (slot_faults o c i A) (slot_faults o c i B) ea ha h))
 
-    module _ {b : Verdict} (eb : b ≡ Holds) (hb : b ≡ verdict_of (slot_faults o c i B)) where
-      pub slots_w : {w : Verdict} (k : LoadErrorKind) → w ≡ Broken k → w ≡ verdict_of (slot_faults o c i W) → Broken k ≡ verdict_of (slots_faults o c i)
+    module _ {b : Verdict} (eb : b ≡ Ok tt) (hb : b ≡ verdict_of (slot_faults o c i B)) where
+      pub slots_w : {w : Verdict} (k : LoadErrorKind) → w ≡ Err k → w ≡ verdict_of (slot_faults o c i W) → Err k ≡ verdict_of (slots_faults o c i)
       unfolding slots_faults
       slots_w k e h =
           verdict_stop (slot_faults o c i A ++ slot_faults o c i B ++ slot_faults o c i W) (slot_faults o c i C) k e
           (verdict_then (slot_faults o c i A ++ slot_faults o c i B) (slot_faults o c i W) eb (verdict_then (slot_faults o c i A) (slot_faults o c i B) ea ha hb) h)
 
-      pub slots_c : {w r : Verdict} → w ≡ Holds → w ≡ verdict_of (slot_faults o c i W) → r ≡ verdict_of (slot_faults o c i C) → r ≡ verdict_of (slots_faults o c i)
+      pub slots_c : {w r : Verdict} → w ≡ Ok tt → w ≡ verdict_of (slot_faults o c i W) → r ≡ verdict_of (slot_faults o c i C) → r ≡ verdict_of (slots_faults o c i)
       unfolding slots_faults
       slots_c e h x =
           verdict_then (slot_faults o c i A ++ slot_faults o c i B ++ slot_faults o c i W) (slot_faults o c i C) e

@@ -8,18 +8,19 @@ ghost use Rattle.rule7_words.specs.Insts.{inst};
 ghost use Rattle.rule7_fields.specs.Fields.{no_faults, kind_faults, slot_of, slot_faults, slots_faults};
 
 use code::FieldKind;
-use error::{ConstId, FuncId, Verdict, What, const_in, func_in, in_range};
+use error::{ConstId, FuncId, LoadErrorKind, What, const_in, func_in, in_range};
 use open_sheet::Opened;
 use rule_frames::Frame;
 use rule7_kinds::{Slot, field_kind, row_kinds};
 use rule7_words::{Inst, opcode, slot_a, slot_b, slot_c, slot_w};
 
 // A number of the kind is in range.
-fn check_field(o: Opened, c: Frame, kind: FieldKind, i: u32) -> Verdict
+#[tactic(auto, using(crate::proofs::FieldSteps::kinds))]
+fn check_field(o: Opened, c: Frame, kind: FieldKind, i: u32) -> Result<(), LoadErrorKind>
     ensures { result ≡ verdict_of (kind_faults o c kind i) }
 {
     match kind {
-        FieldKind::Unused => Verdict::Holds,
+        FieldKind::Unused => Ok(()),
         FieldKind::Reg => in_range(What::Registers, c.regs, i),
         FieldKind::Target => in_range(What::BranchTargets, c.code, i),
         FieldKind::Const => const_in(ConstId(i), o.counts.consts),
@@ -34,6 +35,7 @@ fn check_field(o: Opened, c: Frame, kind: FieldKind, i: u32) -> Verdict
     }
 }
 
+#[tactic(auto, using(crate::proofs::FieldSteps::values))]
 fn slot_value(i: Inst, slot: Slot) -> u32
     ensures { result ≡ slot_of slot (inst i) }
 {
@@ -45,41 +47,27 @@ fn slot_value(i: Inst, slot: Slot) -> u32
     }
 }
 
-fn check_slot(o: Opened, c: Frame, i: Inst, slot: Slot) -> Verdict
+#[tactic(auto, using(crate::proofs::FieldSteps::slot_judged))]
+fn check_slot(o: Opened, c: Frame, i: Inst, slot: Slot) -> Result<(), LoadErrorKind>
     requires { opcode (inst i) < 35 }
     ensures { result ≡ verdict_of (slot_faults o c i slot) }
 {
-    let kind = field_kind(opcode(i), slot);
-    check_field(o, c, kind, slot_value(i, slot))
+    check_field(o, c, field_kind(opcode(i), slot), slot_value(i, slot))
 }
 
 // The slots in order.
-pub fn check_fields(o: Opened, c: Frame, i: Inst) -> Verdict
+pub fn check_fields(o: Opened, c: Frame, i: Inst) -> Result<(), LoadErrorKind>
     requires { opcode (inst i) < 35 }
     ensures { result ≡ verdict_of (slots_faults o c i) }
 {
-    match check_slot(o, c, i, Slot::A) {
-        Verdict::Holds => {}
-        Verdict::Broken(k) => {
-            return Verdict::Broken(k);
-        }
-    }
-    match check_slot(o, c, i, Slot::B) {
-        Verdict::Holds => {}
-        Verdict::Broken(k) => {
-            return Verdict::Broken(k);
-        }
-    }
-    match check_slot(o, c, i, Slot::W) {
-        Verdict::Holds => {}
-        Verdict::Broken(k) => {
-            return Verdict::Broken(k);
-        }
-    }
+    check_slot(o, c, i, Slot::A)?;
+    check_slot(o, c, i, Slot::B)?;
+    check_slot(o, c, i, Slot::W)?;
     check_slot(o, c, i, Slot::C)
 }
 
-// A number of the kind is in range, tested without naming the fault.
+// A number of the kind is in range, tested without naming the fault: apart from `check_field`, since it runs at each instruction.
+#[tactic(auto, using(crate::proofs::FieldSteps::tests))]
 fn field_holds(o: Opened, c: Frame, kind: FieldKind, i: u32) -> bool
     ensures { result ≡ no_faults (kind_faults o c kind i) }
 {
@@ -104,11 +92,7 @@ pub fn fields_hold(o: Opened, c: Frame, i: Inst) -> bool
     requires { opcode (inst i) < 35 }
     ensures { result ≡ no_faults (slots_faults o c i) }
 {
-    let row = row_kinds(opcode(i));
-    let a = row[0];
-    let b = row[1];
-    let w = row[2];
-    let d = row[3];
+    let [a, b, w, d] = row_kinds(opcode(i));
     if !field_holds(o, c, a, slot_a(i)) {
         return false;
     }

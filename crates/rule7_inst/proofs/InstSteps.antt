@@ -13,7 +13,7 @@ use Rattle.error.specs.declared.What.{What}
 use Rattle.error.specs.declared.What.TheVariants.{Functions, Constants, Registers, Imports, Globals, BranchTargets, Tables, Names, TypeRefs, Captures, CallShapes}
 use Rattle.error.specs.declared.LoadErrorKind.{LoadErrorKind}
 use Rattle.error.specs.declared.LoadErrorKind.TheVariants.{OutOfRange}
-use Rattle.error.specs.declared.Verdict.{Verdict}
+use Rattle.error.specs.Verdict.{Verdict}
 use Rattle.error.specs.Answer.{unless, in_range}
 use Rattle.error.specs.Verdict.{verdict_of}
 use Rattle.sheet.specs.Module.{opcode, slot_a, slot_b, slot_c, slot_w}

@@ -13,8 +13,8 @@ use Rattle.error.specs.declared.TypeKind.{TypeKind}
 use Rattle.error.specs.declared.TypeKind.TheVariants.{Struct, Array, Map, Cell}
 use Rattle.error.specs.declared.LoadErrorKind.{LoadErrorKind}
 use Rattle.error.specs.declared.LoadErrorKind.TheVariants.{TailCallInTry}
-use Rattle.error.specs.declared.Verdict.{Verdict}
-use Rattle.error.specs.declared.Verdict.TheVariants.{Holds}
+use Rattle.error.specs.Verdict.{Verdict}
+use Rattle.std.specs.Prelude.{Ok}
 use Rattle.error.specs.Answer.{unless}
 use Rattle.error.specs.Verdict.{verdict_of}
 use Rattle.reader.specs.ReaderLaws.{stands_in}
@@ -85,7 +85,7 @@ module _ (b w : List ℕ) (o : Opened) (c : Frame) (x : Checkable (first_words b
 
     -- ── modifiers ──
 
-    pub rule_free : rule ≡ Free → Answer rule Holds
+    pub rule_free : rule ≡ Free → Answer rule (Ok tt)
     unfolding verdict_of rule_in rule_faults rule_of
     rule_free e = by Free e refl
 

@@ -17,7 +17,7 @@ ghost use Rattle.rule7_callees.specs.Callees.{Checkable};
 ghost use Rattle.rule7_inst.specs.Counted.{Reached, rule_in};
 
 use blocks::word;
-use error::{FuncId, TypeKind, Verdict};
+use error::{FuncId, LoadErrorKind, TypeKind};
 use open_sheet::Opened;
 use rule_frames::Frame;
 use rule7_callees::kinds::check_kind;
@@ -38,7 +38,7 @@ fn check_rule(
     i: Inst,
     rule: Rule,
     covered: bool,
-) -> Verdict
+) -> Result<(), LoadErrorKind>
     requires checkable { Checkable (sheet_words sheet.now o) work.now o c }
     requires reached { Reached o c (inst i) (rule_of rule) }
     ensures { result ≡ verdict_of (rule_in (sheet_words sheet.now o) c covered i rule) }
@@ -48,7 +48,7 @@ fn check_rule(
     let d = slot_d(i);
     let w = slot_w(i);
     match rule {
-        Rule::Free => Verdict::Holds,
+        Rule::Free => Ok(()),
         Rule::NoPromote => check_promote(d),
         Rule::PromoteToDyn => check_dyn(word(sheet, c.body.regs + 1 + a as usize) == 12, d),
         Rule::TailCall => outside_try(check_direct(sheet, work, o, c, FuncId(w), a, d), covered),
@@ -78,7 +78,7 @@ pub fn check_inst(
     c: Frame,
     at: usize,
     covered: bool,
-) -> Verdict
+) -> Result<(), LoadErrorKind>
     requires ready { Ready (sheet_words sheet.now o) work.now o }
     requires framed { Framed (sheet_words sheet.now o) c }
     requires tallied { Tallied (sheet_words sheet.now o) work.now o }

@@ -2,7 +2,6 @@
 use Prim.Native.Nat.{ℕ, ◌<◌}
 use mathlib.Core.Path.{◌≡◌, refl, ap, ◌∙◌}
 use mathlib.Core.List.{List, map}
-use native.Mathlib.Omega.{arith}
 use lib.ListN.{get_or}
 use Rattle.lists.specs.ListLaws.{map_at}
 use Rattle.code.specs.declared.FieldKind.{FieldKind}
@@ -15,13 +14,6 @@ use Rattle.rule7_kinds.specs.Slots.{place_of, kind_in, slots_of}
 
 other : Row
 other = step Unused Unused Unused Unused definitions.free
-
-pub place_in : (slot : Slot) {k : ℕ} → k ≡ place_of slot → k < 4
-unfolding place_of
-place_in A e = omega arith
-place_in B e = omega arith
-place_in W e = omega arith
-place_in C e = omega arith
 
 -- ── slots ──
 

@@ -3,7 +3,7 @@
 
 ghost use Rattle.std.specs.Prelude.{◌≡◌, ◌<◌};
 ghost use Rattle.code.specs.Opcodes.{row};
-ghost use Rattle.rule7_kinds.specs.Slots.{place_of, kind_in, slots_of};
+ghost use Rattle.rule7_kinds.specs.Slots.{kind_in, slots_of};
 
 use code::FieldKind;
 use code::FieldKind::{
@@ -58,25 +58,12 @@ const FIELDS: [[FieldKind; 4]; 35] = [
     [Reg, Reg, Unused, Unused], // 34 move
 ];
 
-fn place(slot: Slot) -> usize
-    ensures { result ≡ place_of slot }
-{
-    match slot {
-        Slot::A => 0,
-        Slot::B => 1,
-        Slot::W => 2,
-        Slot::C => 3,
-    }
-}
-
 // The kind of a code's slot.
 pub fn field_kind(code: u32, slot: Slot) -> FieldKind
     requires { code < 35 }
     ensures { result ≡ kind_in (row code) slot }
 {
-    let i = code as usize;
-    let k = place(slot);
-    FIELDS[i][k]
+    FIELDS[code as usize][slot as usize]
 }
 
 // The kinds of all slots of a code, taken in one read.

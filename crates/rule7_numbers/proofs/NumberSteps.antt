@@ -2,70 +2,62 @@
 use Prim.Native.Nat.{ℕ, ◌+◌, ◌-◌, ◌≤◌, ◌<◌}
 use mathlib.Core.Path.{◌≡◌, refl, sym, ap, ◌∙◌}
 use mathlib.Core.Bool.{Bool, true, false, not, ◌||◌}
-use lib.Dec.{eqb, leb, ltb}
-use borrow.Author.Tests.{le-leb, lt-leb, eq-eqb, ne_eqb, lt-ltb, le-ltb}
+use native.Mathlib.Omega.{arith}
+use native.Mathlib.Decide.{dec_lt}
+use lib.Dec.{eqb, leb}
+use borrow.Author.Tests.{le-leb, lt-leb, ne_eqb}
 use Rattle.lists.specs.Lists.{contains}
 use Rattle.error.specs.declared.What.TheVariants.{Registers}
 use Rattle.error.specs.declared.LoadErrorKind.{LoadErrorKind}
-use Rattle.error.specs.declared.LoadErrorKind.TheVariants.{ArityMismatch, CalleeHasCaptures, PromoteNotDynamic, BadModifier, TailCallInTry, OutOfRange}
-use Rattle.error.specs.declared.Verdict.{Verdict}
-use Rattle.error.specs.declared.Verdict.TheVariants.{Holds, Broken}
+use Rattle.error.specs.declared.LoadErrorKind.TheVariants.{ArityMismatch, PromoteNotDynamic, BadModifier, TailCallInTry, OutOfRange}
+use Rattle.error.specs.Verdict.{Verdict}
+use Rattle.std.specs.Prelude.{Err, Ok}
 use Rattle.error.specs.Answer.{unless}
 use Rattle.error.specs.Verdict.{verdict_of}
-use Rattle.code.specs.Code.{promote, to_ref, catchable_kinds, wide_types, arity_faults}
+use Rattle.code.specs.Code.{promote, wide_types, arity_faults}
 use Rattle.code.proofs.ArityLaws.{arity_few, arity_many, arity_right}
-use Rattle.rule7_numbers.specs.Numbers.{window_in, capture_faults, promote_faults, dyn_faults, ref_faults, raise_faults, wide_faults, outside_try}
+use Rattle.rule7_numbers.specs.Numbers.{window_in, promote_faults, dyn_faults, wide_faults, outside_try}
 
 -- ── a test ──
 
-pub test_holds : (b : Bool) (k : LoadErrorKind) → b ≡ true → Holds ≡ verdict_of (unless b k)
+pub test_holds : (b : Bool) (k : LoadErrorKind) → b ≡ true → Ok tt ≡ verdict_of (unless b k)
 unfolding verdict_of
 test_holds b k e = sym (ap (λ x. verdict_of (unless x k)) e)
 
-pub test_broken : (b : Bool) (k : LoadErrorKind) → b ≡ false → Broken k ≡ verdict_of (unless b k)
+pub test_broken : (b : Bool) (k : LoadErrorKind) → b ≡ false → Err k ≡ verdict_of (unless b k)
 unfolding verdict_of
 test_broken b k e = sym (ap (λ x. verdict_of (unless x k)) e)
 
+pub ruleset tests = (test_holds, test_broken)
+
 -- ── each rule ──
 
-pub window_holds : (regs first n : ℕ) → first + n ≤ regs → Holds ≡ verdict_of (window_in regs first n)
+pub window_holds : (regs first n : ℕ) → first + n ≤ regs → Ok tt ≡ verdict_of (window_in regs first n)
 unfolding window_in
 window_holds regs first n h = test_holds (leb (first + n) regs) (OutOfRange Registers (first + n - 1)) (le-leb (first + n) regs h)
 
-pub window_broken : (regs first n : ℕ) → regs < first + n → Broken (OutOfRange Registers (first + n - 1)) ≡ verdict_of (window_in regs first n)
+pub window_broken : (regs first n : ℕ) → regs < first + n → Err (OutOfRange Registers (first + n - 1)) ≡ verdict_of (window_in regs first n)
 unfolding window_in
 window_broken regs first n h = test_broken (leb (first + n) regs) (OutOfRange Registers (first + n - 1)) (lt-leb (first + n) regs h)
 
+pub ruleset windows = (window_holds, window_broken)
+
 module _ (least most found : ℕ) where
-  pub few_broken : found < least → Broken (ArityMismatch least found) ≡ verdict_of (arity_faults least most found)
+  pub few_broken : found < least → Err (ArityMismatch least found) ≡ verdict_of (arity_faults least most found)
   unfolding verdict_of
   few_broken h = sym (ap verdict_of (arity_few least most found h))
 
-  pub many_broken : least ≤ found → most < found → Broken (ArityMismatch most found) ≡ verdict_of (arity_faults least most found)
+  pub many_broken : least ≤ found → most < found → Err (ArityMismatch most found) ≡ verdict_of (arity_faults least most found)
   unfolding verdict_of
   many_broken g h = sym (ap verdict_of (arity_many least most found g h))
 
-  pub arity_holds : least ≤ found → found ≤ most → Holds ≡ verdict_of (arity_faults least most found)
+  pub arity_holds : least ≤ found → found ≤ most → Ok tt ≡ verdict_of (arity_faults least most found)
   unfolding verdict_of
   arity_holds g h = sym (ap verdict_of (arity_right least most found g h))
 
-pub captures_hold : (n : ℕ) → n ≡ 0 → Holds ≡ verdict_of (capture_faults n)
-unfolding capture_faults
-captures_hold n h = test_holds (eqb n 0) CalleeHasCaptures (eq-eqb n 0 h)
+pub ruleset arities = (few_broken, many_broken, arity_holds)
 
-pub captures_broken : (n : ℕ) → (n ≡ 0 → ⊥) → Broken CalleeHasCaptures ≡ verdict_of (capture_faults n)
-unfolding capture_faults
-captures_broken n h = test_broken (eqb n 0) CalleeHasCaptures (ne_eqb n 0 h)
-
-pub promote_holds : (d : ℕ) → (d ≡ 3 → ⊥) → Holds ≡ verdict_of (promote_faults d)
-unfolding promote_faults
-promote_holds d h = test_holds (not (eqb d promote)) PromoteNotDynamic (ap not (ne_eqb d 3 h))
-
-pub promote_broken : (d : ℕ) → d ≡ 3 → Broken PromoteNotDynamic ≡ verdict_of (promote_faults d)
-unfolding promote_faults
-promote_broken d h = test_broken (not (eqb d promote)) PromoteNotDynamic (ap not (eq-eqb d 3 h))
-
-pub dyn_holds : (b : Bool) (d : ℕ) → b ≡ true → Holds ≡ verdict_of (dyn_faults b d)
+pub dyn_holds : (b : Bool) (d : ℕ) → b ≡ true → Ok tt ≡ verdict_of (dyn_faults b d)
 unfolding dyn_faults
 dyn_holds b d e = test_holds (not (eqb d promote) || b) PromoteNotDynamic (go (not (eqb d promote)))
   where
@@ -81,53 +73,54 @@ dyn_promote b d e h = h ∙ ap (λ x. verdict_of (unless x PromoteNotDynamic)) (
     go true = refl
     go false = e
 
-pub ref_holds : (d : ℕ) → (d ≡ 13 → ⊥) → Holds ≡ verdict_of (ref_faults d)
-unfolding ref_faults
-ref_holds d h = test_holds (not (eqb d to_ref)) BadModifier (ap not (ne_eqb d 13 h))
+pub ruleset dyns = (dyn_holds, dyn_promote)
 
-pub ref_broken : (d : ℕ) → d ≡ 13 → Broken BadModifier ≡ verdict_of (ref_faults d)
-unfolding ref_faults
-ref_broken d h = test_broken (not (eqb d to_ref)) BadModifier (ap not (eq-eqb d 13 h))
+module _ (d : ℕ) where
+  wide_is : (k : ℕ) → contains wide_types k ≡ true → d ≡ k → Ok tt ≡ verdict_of (wide_faults d)
+  unfolding wide_faults
+  wide_is k h e = test_holds (contains wide_types d) BadModifier (ap (contains wide_types) e ∙ h)
 
-pub raise_holds : (d : ℕ) → d < 12 → Holds ≡ verdict_of (raise_faults d)
-unfolding raise_faults
-raise_holds d h = test_holds (ltb d catchable_kinds) BadModifier (lt-ltb d 12 h)
+  wide_none : (d ≡ 3 → ⊥) → (d ≡ 4 → ⊥) → (d ≡ 7 → ⊥) → (d ≡ 8 → ⊥) → Err BadModifier ≡ verdict_of (wide_faults d)
+  unfolding wide_faults
+  wide_none h₃ h₄ h₇ h₈ =
+      let z : contains wide_types d ≡ false = rw (ne_eqb d 3 h₃, ne_eqb d 4 h₄, ne_eqb d 7 h₇, ne_eqb d 8 h₈) in
+      test_broken (contains wide_types d) BadModifier z
 
-pub raise_broken : (d : ℕ) → 12 ≤ d → Broken BadModifier ≡ verdict_of (raise_faults d)
-unfolding raise_faults
-raise_broken d h = test_broken (ltb d catchable_kinds) BadModifier (le-ltb d 12 h)
+  pub wide_low : 3 ≤ d → d < 5 → Ok tt ≡ verdict_of (wide_faults d)
+  wide_low g h = go (dec_lt d 4)
+    where
+      go : Dec (d < 4) → Ok tt ≡ verdict_of (wide_faults d)
+      go (yes l) = wide_is 3 refl (omega arith)
+      go (no l) = wide_is 4 refl (omega arith)
 
-wide_is : (d k : ℕ) → contains wide_types k ≡ true → d ≡ k → Holds ≡ verdict_of (wide_faults d)
-unfolding wide_faults
-wide_is d k h e = test_holds (contains wide_types d) BadModifier (ap (contains wide_types) e ∙ h)
+  pub wide_high : 7 ≤ d → d < 9 → Ok tt ≡ verdict_of (wide_faults d)
+  wide_high g h = go (dec_lt d 8)
+    where
+      go : Dec (d < 8) → Ok tt ≡ verdict_of (wide_faults d)
+      go (yes l) = wide_is 7 refl (omega arith)
+      go (no l) = wide_is 8 refl (omega arith)
 
-pub wide_3 : (d : ℕ) → d ≡ 3 → Holds ≡ verdict_of (wide_faults d)
-wide_3 d e = wide_is d 3 refl e
+  pub wide_below : d < 3 → Err BadModifier ≡ verdict_of (wide_faults d)
+  wide_below h = wide_none (λ e. omega arith) (λ e. omega arith) (λ e. omega arith) (λ e. omega arith)
 
-pub wide_4 : (d : ℕ) → d ≡ 4 → Holds ≡ verdict_of (wide_faults d)
-wide_4 d e = wide_is d 4 refl e
+  pub wide_between : 5 ≤ d → d < 7 → Err BadModifier ≡ verdict_of (wide_faults d)
+  wide_between g h = wide_none (λ e. omega arith) (λ e. omega arith) (λ e. omega arith) (λ e. omega arith)
 
-pub wide_7 : (d : ℕ) → d ≡ 7 → Holds ≡ verdict_of (wide_faults d)
-wide_7 d e = wide_is d 7 refl e
+  pub wide_above : 9 ≤ d → Err BadModifier ≡ verdict_of (wide_faults d)
+  wide_above h = wide_none (λ e. omega arith) (λ e. omega arith) (λ e. omega arith) (λ e. omega arith)
 
-pub wide_8 : (d : ℕ) → d ≡ 8 → Holds ≡ verdict_of (wide_faults d)
-wide_8 d e = wide_is d 8 refl e
-
-pub wide_none : (d : ℕ) → (d ≡ 3 → ⊥) → (d ≡ 4 → ⊥) → (d ≡ 7 → ⊥) → (d ≡ 8 → ⊥) → Broken BadModifier ≡ verdict_of (wide_faults d)
-unfolding wide_faults
-wide_none d h₃ h₄ h₇ h₈ =
-    let z : contains wide_types d ≡ false = rw (ne_eqb d 3 h₃, ne_eqb d 4 h₄, ne_eqb d 7 h₇, ne_eqb d 8 h₈) in
-    test_broken (contains wide_types d) BadModifier z
+pub ruleset widths = (wide_low, wide_high, wide_below, wide_between, wide_above)
 
 -- ── a verdict, and then no handler ──
 
 module _ {v : Verdict} (b : Bool) where
-  pub try_broken : (k : LoadErrorKind) → v ≡ Broken k → Broken k ≡ outside_try v b
+  pub try_broken : (k : LoadErrorKind) → v ≡ Err k → Err k ≡ outside_try v b
   unfolding outside_try
   try_broken k e = sym (ap (λ x. outside_try x b) e)
 
-  pub try_inside : v ≡ Holds → b ≡ true → Broken TailCallInTry ≡ outside_try v b
-  try_inside e h = sym (ap (λ x. outside_try x b) e ∙ ap (outside_try Holds) h ∙ (unfold outside_try in refl))
-
-  pub try_outside : v ≡ Holds → b ≡ false → Holds ≡ outside_try v b
-  try_outside e h = sym (ap (λ x. outside_try x b) e ∙ ap (outside_try Holds) h ∙ (unfold outside_try in refl))
+  pub try_tested : {r : Verdict} → v ≡ Ok tt → r ≡ verdict_of (unless (not b) TailCallInTry) → r ≡ outside_try v b
+  try_tested e h = h ∙ go b ∙ sym (ap (λ x. outside_try x b) e)
+    where
+      go : (x : Bool) → verdict_of (unless (not x) TailCallInTry) ≡ outside_try (Ok tt) x
+      go true = unfold verdict_of outside_try in refl
+      go false = unfold verdict_of outside_try in refl

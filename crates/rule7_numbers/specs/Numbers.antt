@@ -4,8 +4,8 @@ use Rattle.lists.specs.Lists.{contains}
 use Rattle.error.specs.declared.What.TheVariants.{Registers}
 use Rattle.error.specs.declared.LoadErrorKind.{LoadErrorKind}
 use Rattle.error.specs.declared.LoadErrorKind.TheVariants.{CalleeHasCaptures, PromoteNotDynamic, BadModifier, TailCallInTry, OutOfRange}
-use Rattle.error.specs.declared.Verdict.{Verdict}
-use Rattle.error.specs.declared.Verdict.TheVariants.{Holds, Broken}
+use Rattle.error.specs.Verdict.{Verdict}
+use Rattle.std.specs.Prelude.{Err, Ok}
 use Rattle.error.specs.Answer.{unless}
 use Rattle.code.specs.Code.{promote, to_ref, catchable_kinds, wide_types}
 
@@ -33,6 +33,6 @@ wide_faults d = unless (contains wide_types d) BadModifier
 
 -- a verdict, and then that no handler covers the instruction
 unfoldable pub outside_try : Verdict → Bool → Verdict
-outside_try (Broken k) covered = Broken k
-outside_try Holds true = Broken TailCallInTry
-outside_try Holds false = Holds
+outside_try (Err k) covered = Err k
+outside_try (Ok tt) true = Err TailCallInTry
+outside_try (Ok tt) false = (Ok tt)

@@ -15,20 +15,22 @@ use Rattle.blocks.specs.Frame.{first_words}
 use Rattle.blocks.proofs.FirstWords.{length_first_words}
 use Rattle.error.specs.declared.LoadErrorKind.{LoadErrorKind}
 use Rattle.error.specs.declared.LoadErrorKind.TheVariants.{InvalidHandler, CatchNotDyn}
-use Rattle.error.specs.declared.Verdict.{Verdict}
-use Rattle.error.specs.declared.Verdict.TheVariants.{Holds, Broken}
+use Rattle.error.specs.Verdict.{Verdict}
+use Rattle.std.specs.Prelude.{Err, Ok}
 use Rattle.error.specs.Answer.{unless}
 use Rattle.error.specs.Verdict.{verdict_of}
-use Rattle.reader.specs.Reader.{broken, got, list_of}
+use Rattle.reader.specs.Reader.{broken, got}
 use Rattle.reader.specs.StepLaws.{word_read}
 use Rattle.reader.specs.Value.{Whole, value_of}
 use Rattle.reader.specs.ValueLaws.{whole_inv, got_whole, value_got, list_within}
-use Rattle.reader.proofs.SizeLaws.{list_count, many_inside}
+use Rattle.reader.proofs.SizeLaws.{list_count}
 use Rattle.sheet.specs.Module.{ValueType, basic, ref, is_dyn, Handler}
 use Rattle.sheet.specs.Decode.{value_type, handler_of}
 use Rattle.sheet.proofs.SizeLaws.{value_takes}
 use Rattle.code.specs.Code.{is_dyn_register, good_handler, handler_faults}
-use Rattle.law_judging.specs.Judging.{Judges, list_faults, judges_start, judges_end, judges_whole, judges_next, judges_stop}
+use Rattle.law_judging.specs.Judging.{list_faults}
+use Rattle.law_judging.specs.Each.{each_faults}
+use Rattle.law_judging.proofs.EachLaws.{list_member, list_room, list_judged, read_same}
 use Rattle.rule_frames.specs.declared.Frame.{Frame}
 use Rattle.rule_frames.specs.Frames.{func_of, Framed}
 use Rattle.rule7_parts.specs.CodeParts.{no_handler, handlers_faults}
@@ -135,7 +137,7 @@ module _ (b : List ℕ) (n at : ℕ) (c : Frame) (x : Framed (first_words b n) c
       handler_last {r} k l m hr = to_fourth _ _ _ _ (lt-ltb s e k) (le-leb e c.code l) (lt-ltb t c.code m) ∙ tested hs he ht hr
 
   module _ {g : Bool} (k : g ≡ good_handler (func_of (first_words b n) c) (value_of no_handler (handler_of (first_words b n) at))) where
-    pub handler_bad : g ≡ false → Broken InvalidHandler ≡ verdict_of (handler_faults (func_of (first_words b n) c) (value_of no_handler (handler_of (first_words b n) at)))
+    pub handler_bad : g ≡ false → Err InvalidHandler ≡ verdict_of (handler_faults (func_of (first_words b n) c) (value_of no_handler (handler_of (first_words b n) at)))
     unfolding handler_faults verdict_of
     handler_bad e =
         ap (λ t. verdict_of (unless t InvalidHandler ++ unless (is_dyn_register (func_of (first_words b n) c) (value_of no_handler (handler_of (first_words b n) at)).catch) CatchNotDyn)) (sym e ∙ k)
@@ -153,11 +155,11 @@ module _ (b : List ℕ) (n at : ℕ) (c : Frame) (x : Framed (first_words b n) c
         dyn : d ≡ is_dyn_register (func_of (first_words b n) c) (value_of no_handler (handler_of (first_words b n) at)).catch
         dyn = y ∙ ap (λ (a : Handler). is_dyn_register (func_of (first_words b n) c) a.catch) (sym (handler_value b n at h refl refl refl hr))
 
-        pub handler_holds : d ≡ true → Holds ≡ verdict_of (handler_faults (func_of (first_words b n) c) (value_of no_handler (handler_of (first_words b n) at)))
+        pub handler_holds : d ≡ true → Ok tt ≡ verdict_of (handler_faults (func_of (first_words b n) c) (value_of no_handler (handler_of (first_words b n) at)))
         unfolding handler_faults verdict_of
         handler_holds z = ap₂ (λ t u. verdict_of (unless t InvalidHandler ++ unless u CatchNotDyn)) (sym e ∙ k) (sym z ∙ dyn)
 
-        pub handler_plain : d ≡ false → Broken CatchNotDyn ≡ verdict_of (handler_faults (func_of (first_words b n) c) (value_of no_handler (handler_of (first_words b n) at)))
+        pub handler_plain : d ≡ false → Err CatchNotDyn ≡ verdict_of (handler_faults (func_of (first_words b n) c) (value_of no_handler (handler_of (first_words b n) at)))
         unfolding handler_faults verdict_of
         handler_plain z = ap₂ (λ t u. verdict_of (unless t InvalidHandler ++ unless u CatchNotDyn)) (sym e ∙ k) (sym z ∙ dyn)
 
@@ -165,38 +167,26 @@ pub ruleset handling = (handler_empty, handler_far, handler_astray, handler_last
 
 -- ── all of them ──
 
+-- what is broken in the handler at p
+unfoldable pub handler_judged : List ℕ → ℕ → Frame → ℕ → List LoadErrorKind
+handler_judged b n c p = handler_faults (func_of (first_words b n) c) (value_of no_handler (handler_of (first_words b n) p))
+
 module _ (b : List ℕ) (n : ℕ) (c : Frame) (x : Framed (first_words b n) c) where
   pub handlers_within : c.body.handlers < n
   handlers_within = list_within handler_of b n c.body.handlers (got_whole x.placed.handlers)
 
-  pub handlers_start : Judges handler_of (handler_faults (func_of (first_words b n) c)) (first_words b n) c.body.handlers c.handlers (c.body.handlers + 1)
-  handlers_start =
-      judges_start handler_of (handler_faults (func_of (first_words b n) c)) b n c.body.handlers (got_whole x.placed.handlers)
-      (x.handlers ∙ sym (list_count handler_of b n c.body.handlers (func_of (first_words b n) c).handlers c.body.tables x.placed.handlers refl))
+  handlers_count : c.handlers ≡ get_or (words b) c.body.handlers 0
+  handlers_count = x.handlers ∙ sym (list_count handler_of b n c.body.handlers (func_of (first_words b n) c).handlers c.body.tables x.placed.handlers refl)
 
-  all_handlers : verdict_of (list_faults (handler_faults (func_of (first_words b n) c)) (list_of handler_of (first_words b n) c.body.handlers)) ≡ verdict_of (handlers_faults (func_of (first_words b n) c))
-  unfolding handlers_faults list_faults
-  all_handlers = ap (λ l. verdict_of (concat_map (handler_faults (func_of (first_words b n) c)) l)) (value_got [] x.placed.handlers)
+  pub handlers_room : c.body.handlers + 1 + 4 * c.handlers ≤ n
+  handlers_room = list_room handler_of 4 handler_takes b n c.body.handlers (got_whole x.placed.handlers) handlers_count
 
-  module _ (left p : ℕ) (y : Judges handler_of (handler_faults (func_of (first_words b n) c)) (first_words b n) c.body.handlers left p) where
-    pub handlers_end : left ≤ 0 → Holds ≡ verdict_of (handlers_faults (func_of (first_words b n) c))
-    handlers_end h = judges_end handler_of (handler_faults (func_of (first_words b n) c)) (first_words b n) c.body.handlers left p y h ∙ all_handlers
+  pub handlers_whole : (i : ℕ) → i < c.handlers → Whole (handler_of (first_words b n) (c.body.handlers + 1 + 4 * i))
+  handlers_whole = list_member handler_of 4 handler_takes b n c.body.handlers (got_whole x.placed.handlers) handlers_count
 
-    module _ (h : 0 < left) where
-      pub handlers_whole : Whole (handler_of (first_words b n) p)
-      handlers_whole = judges_whole handler_of (handler_faults (func_of (first_words b n) c)) (first_words b n) c.body.handlers left p y h
-
-      module _ {r : Verdict} (k : r ≡ verdict_of (handler_faults (func_of (first_words b n) c) (value_of no_handler (handler_of (first_words b n) p)))) where
-        pub handlers_next : r ≡ Holds → Judges handler_of (handler_faults (func_of (first_words b n) c)) (first_words b n) c.body.handlers (left - 1) (p + 4)
-        handlers_next e =
-            judges_next handler_of (handler_faults (func_of (first_words b n) c)) (first_words b n) c.body.handlers left p y h no_handler (p + 4) e k
-            (handler_takes.ends (first_words b n) p)
-
-        pub handlers_stop : {d : LoadErrorKind} → r ≡ Broken d → Broken d ≡ verdict_of (handlers_faults (func_of (first_words b n) c))
-        handlers_stop {d} e =
-            judges_stop handler_of (handler_faults (func_of (first_words b n) c)) (first_words b n) c.body.handlers left p y h no_handler d e k ∙ all_handlers
-
-pub handlers_fit : (faults : Handler → List LoadErrorKind) (b : List ℕ) (n at left q : ℕ) → Judges handler_of faults (first_words b n) at left q → 4 * left ≤ n - q
-handlers_fit faults b n at left q x = omega (arith, many_inside handler_of 4 handler_takes (first_words b n) left q x.whole, length_first_words b n)
-
-pub ruleset handlers = (handlers_start, handlers_end, handlers_whole, handlers_next, handlers_stop)
+  pub handlers_judged : {r : Verdict} → r ≡ verdict_of (each_faults (handler_judged b n c) 4 c.handlers (c.body.handlers + 1)) → r ≡ verdict_of (handlers_faults (func_of (first_words b n) c))
+  unfolding handler_judged handlers_faults list_faults
+  handlers_judged k =
+      list_judged handler_of 4 handler_takes b n c.body.handlers (got_whole x.placed.handlers) handlers_count (handler_faults (func_of (first_words b n) c)) (handler_judged b n c)
+      (read_same handler_of (first_words b n) (handler_faults (func_of (first_words b n) c)) no_handler) k
+      ∙ ap (λ l. verdict_of (concat_map (handler_faults (func_of (first_words b n) c)) l)) (value_got [] x.placed.handlers)

@@ -9,9 +9,9 @@ use lib.ListN.{length, get_or}
 use borrow.Author.Tests.{lt-ltb, le-ltb}
 use Rattle.blocks.specs.Frame.{first_words}
 use Rattle.error.specs.declared.LoadErrorKind.TheVariants.{EmptyCode, FallsThrough}
-use Rattle.error.specs.declared.Verdict.TheVariants.{Broken}
-use Rattle.error.specs.declared.Judged.{Judged}
-use Rattle.error.specs.declared.Judged.TheVariants.{Passed}
+use Rattle.std.specs.Prelude.{Err}
+use Rattle.error.specs.Verdict.{Judged}
+use Rattle.std.specs.Prelude.{Ok}
 use Rattle.error.specs.Answer.{in_function, at_position, unless}
 use Rattle.error.specs.Verdict.{judged_of, placed}
 use Rattle.reader.specs.Reader.{got}
@@ -52,7 +52,7 @@ module _ (b : List ℕ) (n : ℕ) (c : Frame) (x : Framed (first_words b n) c) w
   pub last_whole : (c.code ≡ 0 → ⊥) → Whole (inst_of (first_words b n) (c.body.code + 1 + 2 * (c.code - 1)))
   last_whole h = inst_whole (c.code - 1) (omega arith)
 
-  pub last_empty : {r : Judged} → c.code ≡ 0 → r ≡ placed (in_function c.func.0) (Broken EmptyCode) → r ≡ judged_of (last_faults c.func.0 (func_of (first_words b n) c))
+  pub last_empty : {r : Judged} → c.code ≡ 0 → r ≡ placed (in_function c.func.0) (Err EmptyCode) → r ≡ judged_of (last_faults c.func.0 (func_of (first_words b n) c))
   unfolding last_faults placed judged_of
   last_empty h k =
       let f = func_of (first_words b n) c in
@@ -71,14 +71,14 @@ module _ (b : List ℕ) (n : ℕ) (c : Frame) (x : Framed (first_words b n) c) w
     whole_code : true ≡ ltb 0 (length (func_of (first_words b n) c).code)
     whole_code = let k : c.code ≡ length (func_of (first_words b n) c).code = x.code in sym (lt-ltb 0 (length (func_of (first_words b n) c).code) (omega arith))
 
-    pub last_passes : t ≡ true → Passed ≡ judged_of (last_faults c.func.0 (func_of (first_words b n) c))
+    pub last_passes : t ≡ true → Ok tt ≡ judged_of (last_faults c.func.0 (func_of (first_words b n) c))
     unfolding last_faults judged_of
     last_passes y =
         ap₂ (λ a d. judged_of (map (in_function c.func.0) (unless a EmptyCode) ++ map (at_position c.func.0 (last_position (func_of (first_words b n) c))) (unless d FallsThrough)))
         whole_code
         (sym y ∙ last_is)
 
-    pub last_falls : {r : Judged} → t ≡ false → r ≡ placed (at_position c.func.0 (c.code - 1)) (Broken FallsThrough) → r ≡ judged_of (last_faults c.func.0 (func_of (first_words b n) c))
+    pub last_falls : {r : Judged} → t ≡ false → r ≡ placed (at_position c.func.0 (c.code - 1)) (Err FallsThrough) → r ≡ judged_of (last_faults c.func.0 (func_of (first_words b n) c))
     unfolding last_faults placed judged_of last_position
     last_falls y k =
         k ∙ ap (λ m. judged_of (at_position c.func.0 (m - 1) FallsThrough ∷ [])) x.code

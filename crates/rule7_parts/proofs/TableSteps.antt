@@ -11,20 +11,22 @@ use Rattle.blocks.specs.Frame.{first_words}
 use Rattle.blocks.proofs.FirstWords.{length_first_words}
 use Rattle.error.specs.declared.What.TheVariants.{TableTargets}
 use Rattle.error.specs.declared.LoadErrorKind.{LoadErrorKind}
-use Rattle.error.specs.declared.Verdict.{Verdict}
-use Rattle.error.specs.declared.Verdict.TheVariants.{Holds, Broken}
+use Rattle.error.specs.Verdict.{Verdict}
+use Rattle.std.specs.Prelude.{Err, Ok}
 use Rattle.error.specs.Answer.{in_range}
 use Rattle.error.specs.Verdict.{verdict_of}
 use Rattle.error.specs.VerdictLaws.{verdict_then, verdict_stop}
 use Rattle.reader.specs.Reader.{got, Reader, and_then, word, many, list_of}
-use Rattle.reader.specs.ReaderLaws.{then_inv}
-use Rattle.reader.specs.StepLaws.{word_read}
+use Rattle.std.proofs.Common.{subst, append_assoc, append-nil}
+use Rattle.reader.specs.ReaderLaws.{free, one_word, word_codes, then_inv}
 use Rattle.reader.specs.Value.{Whole, value_of}
-use Rattle.reader.specs.ValueLaws.{whole_inv, got_whole, value_got, list_within, many_first}
-use Rattle.reader.proofs.SizeLaws.{list_count, word_takes, many_inside, many_takes, list_read}
+use Rattle.reader.specs.ValueLaws.{whole_inv, got_whole, value_got, list_within}
+use Rattle.reader.proofs.SizeLaws.{first_held, list_count, word_takes, many_inside, many_takes, list_read}
 use Rattle.sheet.specs.Module.{Switch, Func}
 use Rattle.sheet.specs.Decode.{switch_of}
 use Rattle.code.specs.Code.{table_faults}
+use Rattle.law_judging.specs.Each.{each_faults}
+use Rattle.law_judging.proofs.EachLaws.{many_judged}
 use Rattle.law_judging.specs.Judging.{Judges, list_faults, judges_start, judges_end, judges_whole, judges_next, judges_stop}
 use Rattle.rule_frames.specs.declared.Frame.{Frame}
 use Rattle.rule_frames.specs.Frames.{func_of, Framed}
@@ -79,52 +81,37 @@ pub target_judged : (b : List ℕ) (n : ℕ) (c : Frame) (at : ℕ) {w : ℕ} {r
     r ≡ verdict_of (in_range TableTargets (length (func_of (first_words b n) c).code) (get_or (words b) at 0))
 target_judged b n c at x e k = k ∙ ap₂ (λ m w. verdict_of (in_range TableTargets m w)) x.code e
 
--- left targets are ahead from p on
-pub record Targets (ws : List ℕ) (f : Func) (at left p : ℕ) : Type 0 where
-  pub whole : Whole (many left word ws p)
-  pub same : verdict_of (table_faults f (value_of no_switch (switch_of ws at))) ≡ verdict_of (concat_map (in_range TableTargets (length f.code)) (value_of [] (many left word ws p)))
+-- what is broken in the target at p
+unfoldable pub target_faults : List ℕ → Func → ℕ → List LoadErrorKind
+target_faults b f p = in_range TableTargets (length f.code) (get_or (words b) p 0)
 
-pub targets_start : (b : List ℕ) (n at : ℕ) (f : Func) {k : ℕ} → Whole (switch_of (first_words b n) at) → k ≡ get_or (words b) at 0 → Targets (first_words b n) f at (k + 1) (at + 1)
-unfolding table_faults
-targets_start b n at f {k} h e = switch_inv b n at h e λ s q g m. record {
-  whole = got_whole m;
-  same = ap (λ (z : Switch). verdict_of (table_faults f z)) (value_got no_switch g) ∙ ap (λ l. verdict_of (concat_map (in_range TableTargets (length f.code)) l)) (sym (value_got [] m));
-}
+each_more : (g : ℕ → List LoadErrorKind) (k p : ℕ) → each_faults g 1 (suc k) p ≡ each_faults g 1 k p ++ g (p + k)
+unfolding each_faults
+each_more g zero p = let z : p + 0 ≡ p = omega arith in rw z (append-nil (g p))
+each_more g (suc k) p =
+    let z : p + suc k ≡ p + 1 + k = omega arith in
+    ap (λ l. g p ++ l) (each_more g k (p + 1)) ∙ sym (append_assoc (g p) (each_faults g 1 k (p + 1)) (g (p + 1 + k))) ∙ ap (λ q. g p ++ each_faults g 1 k (p + 1) ++ g q) (sym z)
 
-pub targets_fit : (b : List ℕ) (n : ℕ) (f : Func) (at left p : ℕ) → Targets (first_words b n) f at left p → left ≤ n - p
-targets_fit b n f at left p x = omega (arith, many_inside word 1 word_takes (first_words b n) left p x.whole, length_first_words b n)
+module _ (b : List ℕ) (n : ℕ) (f : Func) (at : ℕ) {k : ℕ} (h : Whole (switch_of (first_words b n) at)) (e : k ≡ get_or (words b) at 0) where
+  target_same : (p a q : ℕ) → word (first_words b n) p ≡ got a q → target_faults b f p ≡ in_range TableTargets (length f.code) a
+  unfolding target_faults
+  target_same p a q g = ap (in_range TableTargets (length f.code)) (first_held word one_word free b n (word_codes (first_words b n)) p a q g (omega arith) refl)
 
-module _ (b : List ℕ) (n : ℕ) (c : Frame) (at left p : ℕ) (x : Targets (first_words b n) (func_of (first_words b n) c) at left p) where
-  pub targets_end : left ≤ 0 → Holds ≡ verdict_of (table_faults (func_of (first_words b n) c) (value_of no_switch (switch_of (first_words b n) at)))
-  unfolding many value_of verdict_of
-  targets_end h =
-      let z : left ≡ 0 = omega arith in
-      sym (x.same ∙ ap (λ k. verdict_of (concat_map (in_range TableTargets (length (func_of (first_words b n) c).code)) (value_of [] (many k word (first_words b n) p)))) z)
+  split : verdict_of (table_faults f (value_of no_switch (switch_of (first_words b n) at))) ≡ verdict_of (each_faults (target_faults b f) 1 k (at + 1) ++ target_faults b f (at + 1 + k))
+  unfolding table_faults list_faults
+  split = switch_inv b n at h e λ s q g m.
+      let z : k + 1 ≡ suc k = omega arith in
+      ap (λ (t : Switch). verdict_of (table_faults f t)) (value_got no_switch g)
+      ∙ ap (λ l. verdict_of (concat_map (in_range TableTargets (length f.code)) l)) (sym (value_got [] m))
+      ∙ ap verdict_of (sym (many_judged word 1 word_takes (first_words b n) (in_range TableTargets (length f.code)) (target_faults b f) target_same (k + 1) (at + 1) (got_whole m)))
+      ∙ ap (λ c. verdict_of (each_faults (target_faults b f) 1 c (at + 1))) z ∙ ap verdict_of (each_more (target_faults b f) k (at + 1))
 
-  module _ (h : 0 < left) {r : Verdict} (k : r ≡ verdict_of (in_range TableTargets (length (func_of (first_words b n) c).code) (get_or (words b) p 0))) where
-    ahead : {C : Type 0} → ((ys : List ℕ) (q : ℕ) → many (left - 1) word (first_words b n) (p + 1) ≡ got ys q
-        → verdict_of (table_faults (func_of (first_words b n) c) (value_of no_switch (switch_of (first_words b n) at)))
-        ≡ verdict_of (in_range TableTargets (length (func_of (first_words b n) c).code) (get_or (words b) p 0) ++ concat_map (in_range TableTargets (length (func_of (first_words b n) c).code)) ys) → C) → C
-    ahead f = many_first word (first_words b n) left p x.whole h λ a q ys s e₁ e₂ e₃.
-        let i : p < n = omega (arith, targets_fit b n (func_of (first_words b n) c) at left p x) in
-        let g : got (get_or (words b) p 0) (p + 1) ≡ got a q = sym (word_read b n p i refl) ∙ e₁ in
-        let u : get_or (words b) p 0 ≡ a = cc in
-        let z : p + 1 ≡ q = cc in
-        f ys s (ap (many (left - 1) word (first_words b n)) z ∙ e₂)
-        (x.same ∙ ap (λ l. verdict_of (concat_map (in_range TableTargets (length (func_of (first_words b n) c).code)) l)) (value_got [] e₃ ∙ ap (λ v. v ∷ ys) (sym u)))
+  module _ {r : Verdict} (x : r ≡ verdict_of (each_faults (target_faults b f) 1 k (at + 1))) where
+    pub targets_stop : {d : LoadErrorKind} → r ≡ Err d → Err d ≡ verdict_of (table_faults f (value_of no_switch (switch_of (first_words b n) at)))
+    targets_stop {d} z = verdict_stop (each_faults (target_faults b f) 1 k (at + 1)) (target_faults b f (at + 1 + k)) d z x ∙ sym split
 
-    pub targets_next : r ≡ Holds → Targets (first_words b n) (func_of (first_words b n) c) at (left - 1) (p + 1)
-    targets_next z = ahead λ ys q m s. record {
-      whole = got_whole m;
-      same = s ∙ sym (verdict_then (in_range TableTargets (length (func_of (first_words b n) c).code) (get_or (words b) p 0)) (concat_map (in_range TableTargets (length (func_of (first_words b n) c).code)) ys) z k refl)
-          ∙ ap (λ l. verdict_of (concat_map (in_range TableTargets (length (func_of (first_words b n) c).code)) l)) (sym (value_got [] m));
-    }
-
-    pub targets_stop : {d : LoadErrorKind} → r ≡ Broken d → Broken d ≡ verdict_of (table_faults (func_of (first_words b n) c) (value_of no_switch (switch_of (first_words b n) at)))
-    targets_stop {d} z = ahead λ ys q m s.
-        verdict_stop (in_range TableTargets (length (func_of (first_words b n) c).code) (get_or (words b) p 0)) (concat_map (in_range TableTargets (length (func_of (first_words b n) c).code)) ys) d z k ∙ sym s
-
-pub ruleset aiming = (targets_start, targets_end, targets_next, targets_stop)
+    pub targets_last : {s : Verdict} → r ≡ Ok tt → s ≡ verdict_of (target_faults b f (at + 1 + k)) → s ≡ verdict_of (table_faults f (value_of no_switch (switch_of (first_words b n) at)))
+    targets_last z y = verdict_then (each_faults (target_faults b f) 1 k (at + 1)) (target_faults b f (at + 1 + k)) z x y ∙ sym split
 
 -- ── all of them ──
 
@@ -132,34 +119,39 @@ module _ (b : List ℕ) (n : ℕ) (c : Frame) (x : Framed (first_words b n) c) w
   pub tables_within : c.body.tables < n
   tables_within = list_within switch_of b n c.body.tables (got_whole x.placed.tables)
 
-  pub tables_start : Judges switch_of (table_faults (func_of (first_words b n) c)) (first_words b n) c.body.tables c.tables (c.body.tables + 1)
+  pub tables_start : Judges switch_of (table_faults (func_of (first_words b n) c)) (first_words b n) c.body.tables (c.tables - 0) (c.body.tables + 1)
   tables_start =
-      judges_start switch_of (table_faults (func_of (first_words b n) c)) b n c.body.tables (got_whole x.placed.tables)
-      (x.tables ∙ sym (list_count switch_of b n c.body.tables (func_of (first_words b n) c).tables c.body.code x.placed.tables refl))
+      let z : c.tables ≡ c.tables - 0 = omega arith in
+      subst (λ k. Judges switch_of (table_faults (func_of (first_words b n) c)) (first_words b n) c.body.tables k (c.body.tables + 1)) z
+      (judges_start switch_of (table_faults (func_of (first_words b n) c)) b n c.body.tables (got_whole x.placed.tables)
+      (x.tables ∙ sym (list_count switch_of b n c.body.tables (func_of (first_words b n) c).tables c.body.code x.placed.tables refl)))
 
   all_tables : verdict_of (list_faults (table_faults (func_of (first_words b n) c)) (list_of switch_of (first_words b n) c.body.tables)) ≡ verdict_of (tables_faults (func_of (first_words b n) c))
   unfolding tables_faults list_faults
   all_tables = ap (λ l. verdict_of (concat_map (table_faults (func_of (first_words b n) c)) l)) (value_got [] x.placed.tables)
 
-  module _ (left p : ℕ) (y : Judges switch_of (table_faults (func_of (first_words b n) c)) (first_words b n) c.body.tables left p) where
-    pub tables_end : left ≤ 0 → Holds ≡ verdict_of (tables_faults (func_of (first_words b n) c))
-    tables_end h = judges_end switch_of (table_faults (func_of (first_words b n) c)) (first_words b n) c.body.tables left p y h ∙ all_tables
+  module _ (i p : ℕ) (y : Judges switch_of (table_faults (func_of (first_words b n) c)) (first_words b n) c.body.tables (c.tables - i) p) where
+    pub tables_end : c.tables ≤ i → Ok tt ≡ verdict_of (tables_faults (func_of (first_words b n) c))
+    tables_end h = judges_end switch_of (table_faults (func_of (first_words b n) c)) (first_words b n) c.body.tables (c.tables - i) p y (omega arith) ∙ all_tables
 
-    module _ (h : 0 < left) where
+    module _ (h : i < c.tables) where
       pub tables_whole : Whole (switch_of (first_words b n) p)
-      tables_whole = judges_whole switch_of (table_faults (func_of (first_words b n) c)) (first_words b n) c.body.tables left p y h
+      tables_whole = judges_whole switch_of (table_faults (func_of (first_words b n) c)) (first_words b n) c.body.tables (c.tables - i) p y (omega arith)
 
       pub tables_fit : {w : ℕ} → w ≡ get_or (words b) p 0 → p + 2 + w ≤ n
       tables_fit e = switch_fit b n p tables_whole e
 
       module _ {r : Verdict} (k : r ≡ verdict_of (table_faults (func_of (first_words b n) c) (value_of no_switch (switch_of (first_words b n) p)))) where
-        pub tables_next : {w : ℕ} → w ≡ get_or (words b) p 0 → r ≡ Holds → Judges switch_of (table_faults (func_of (first_words b n) c)) (first_words b n) c.body.tables (left - 1) (p + (2 + w))
+        pub tables_next : {w : ℕ} → w ≡ get_or (words b) p 0 → r ≡ Ok tt →
+            Judges switch_of (table_faults (func_of (first_words b n) c)) (first_words b n) c.body.tables (c.tables - (i + 1)) (p + (2 + w))
         tables_next {w} z e =
-            judges_next switch_of (table_faults (func_of (first_words b n) c)) (first_words b n) c.body.tables left p y h no_switch (p + (2 + w)) e k
-            (switch_ends b n p tables_whole z)
+            let m : c.tables - i - 1 ≡ c.tables - (i + 1) = omega arith in
+            subst (λ k. Judges switch_of (table_faults (func_of (first_words b n) c)) (first_words b n) c.body.tables k (p + (2 + w))) m
+            (judges_next switch_of (table_faults (func_of (first_words b n) c)) (first_words b n) c.body.tables (c.tables - i) p y (omega arith) no_switch (p + (2 + w)) e k
+            (switch_ends b n p tables_whole z))
 
-        pub tables_stop : {d : LoadErrorKind} → r ≡ Broken d → Broken d ≡ verdict_of (tables_faults (func_of (first_words b n) c))
+        pub tables_stop : {d : LoadErrorKind} → r ≡ Err d → Err d ≡ verdict_of (tables_faults (func_of (first_words b n) c))
         tables_stop {d} e =
-            judges_stop switch_of (table_faults (func_of (first_words b n) c)) (first_words b n) c.body.tables left p y h no_switch d e k ∙ all_tables
+            judges_stop switch_of (table_faults (func_of (first_words b n) c)) (first_words b n) c.body.tables (c.tables - i) p y (omega arith) no_switch d e k ∙ all_tables
 
 pub ruleset tables = (tables_start, tables_end, tables_whole, tables_next, tables_stop)

@@ -14,28 +14,29 @@ ghost use Rattle.rule7_parts.specs.CodeParts.{no_handler, no_switch, handlers_fa
 ghost use Rattle.open_sheet.specs.Ready.{sheet_words};
 
 use blocks::word;
-use error::{Judged, LoadErrorKind, Verdict, What, at_position, in_function, in_range};
+use error::{LoadError, LoadErrorKind, What, at_position, in_function, in_range};
 use open_sheet::Opened;
 use rule_frames::Frame;
+use rule_values::check_each;
 use rule7_opcodes::terminates;
 use rule7_words::{opcode, read_inst};
 
 // There is code, and its last instruction terminates.
-fn check_last(sheet: &[u8], o: Opened, c: Frame) -> Judged
+fn check_last(sheet: &[u8], o: Opened, c: Frame) -> Result<(), LoadError>
     requires func_bound { c.func.0 + 1 < 4294967296 }
     requires framed { Framed (sheet_words sheet.now o) c }
     requires words_bound { o.layout.words ≤ 520192 }
     ensures { result ≡ judged_of (last_faults c.func.0 (func_of (sheet_words sheet.now o) c)) }
 {
     if c.code == 0 {
-        return in_function(Verdict::Broken(LoadErrorKind::EmptyCode), c.func);
+        return in_function(Err(LoadErrorKind::EmptyCode), c.func);
     }
     let last = c.code - 1;
     let i = read_inst(sheet, o.layout.words, c.body.code + 1 + 2 * last as usize);
     if terminates(opcode(i)) {
-        return Judged::Passed;
+        return Ok(());
     }
-    at_position(Verdict::Broken(LoadErrorKind::FallsThrough), c.func, last)
+    at_position(Err(LoadErrorKind::FallsThrough), c.func, last)
 }
 
 // Register r holds dyn.
@@ -48,6 +49,7 @@ fn dyn_register(sheet: &[u8], o: Opened, c: Frame, r: u32) -> bool
 }
 
 // Start below end, end within the code, target and catch in range.
+#[tactic(auto, using(crate::proofs::HandlerSteps::handling))]
 fn good_handler(sheet: &[u8], o: Opened, c: Frame, at: usize) -> bool
     requires framed { Framed (sheet_words sheet.now o) c }
     requires whole { Whole (handler_of (sheet_words sheet.now o) at) }
@@ -69,41 +71,32 @@ fn good_handler(sheet: &[u8], o: Opened, c: Frame, at: usize) -> bool
 }
 
 // The frame of the handler, then the type of the register that catches.
-fn check_handler(sheet: &[u8], o: Opened, c: Frame, at: usize) -> Verdict
+#[tactic(auto, using(crate::proofs::HandlerSteps::handling))]
+fn check_handler(sheet: &[u8], o: Opened, c: Frame, at: usize) -> Result<(), LoadErrorKind>
     requires framed { Framed (sheet_words sheet.now o) c }
     requires whole { Whole (handler_of (sheet_words sheet.now o) at) }
     ensures { result ≡ verdict_of (handler_faults (func_of (sheet_words sheet.now o) c) (value_of no_handler (handler_of (sheet_words sheet.now o) at))) }
 {
-    if good_handler(sheet, o, c, at) {
-        if dyn_register(sheet, o, c, word(sheet, at + 3)) {
-            return Verdict::Holds;
-        }
-        return Verdict::Broken(LoadErrorKind::CatchNotDyn);
+    if !good_handler(sheet, o, c, at) {
+        return Err(LoadErrorKind::InvalidHandler);
     }
-    Verdict::Broken(LoadErrorKind::InvalidHandler)
+    if !dyn_register(sheet, o, c, word(sheet, at + 3)) {
+        return Err(LoadErrorKind::CatchNotDyn);
+    }
+    Ok(())
 }
 
-fn check_handlers(sheet: &[u8], o: Opened, c: Frame) -> Verdict
+fn check_handlers(sheet: &[u8], o: Opened, c: Frame) -> Result<(), LoadErrorKind>
     requires { Framed (sheet_words sheet.now o) c }
     ensures { result ≡ verdict_of (handlers_faults (func_of (sheet_words sheet.now o) c)) }
 {
-    let mut left = c.handlers;
-    let mut p = c.body.handlers + 1;
-    while 0 < left {
-        match check_handler(sheet, o, c, p) {
-            Verdict::Holds => {}
-            Verdict::Broken(k) => {
-                return Verdict::Broken(k);
-            }
-        }
-        p += 4;
-        left -= 1;
-    }
-    Verdict::Holds
+    check_each(c.handlers, c.body.handlers + 1, 4, |p| {
+        check_handler(sheet, o, c, p)
+    })
 }
 
 // The target at a place.
-fn check_target(sheet: &[u8], o: Opened, c: Frame, at: usize) -> Verdict
+fn check_target(sheet: &[u8], o: Opened, c: Frame, at: usize) -> Result<(), LoadErrorKind>
     requires { Framed (sheet_words sheet.now o) c }
     ensures { result ≡ verdict_of (in_range TableTargets (length (func_of (sheet_words sheet.now o) c).code) (get_or (words sheet.now) at 0)) }
 {
@@ -111,64 +104,37 @@ fn check_target(sheet: &[u8], o: Opened, c: Frame, at: usize) -> Verdict
 }
 
 // Targets, and the default after them.
-fn check_table(sheet: &[u8], o: Opened, c: Frame, at: usize) -> Verdict
+fn check_table(sheet: &[u8], o: Opened, c: Frame, at: usize) -> Result<(), LoadErrorKind>
     requires framed { Framed (sheet_words sheet.now o) c }
     requires whole { Whole (switch_of (sheet_words sheet.now o) at) }
     ensures { result ≡ verdict_of (table_faults (func_of (sheet_words sheet.now o) c) (value_of no_switch (switch_of (sheet_words sheet.now o) at))) }
 {
-    let mut left = word(sheet, at) as usize + 1;
-    let mut p = at + 1;
-    while 0 < left {
-        match check_target(sheet, o, c, p) {
-            Verdict::Holds => {}
-            Verdict::Broken(k) => {
-                return Verdict::Broken(k);
-            }
-        }
-        p += 1;
-        left -= 1;
-    }
-    Verdict::Holds
+    let count = word(sheet, at);
+    check_each(count, at + 1, 1, |p| check_target(sheet, o, c, p))?;
+    check_target(sheet, o, c, at + 1 + count as usize)
 }
 
-fn check_tables(sheet: &[u8], o: Opened, c: Frame) -> Verdict
+fn check_tables(sheet: &[u8], o: Opened, c: Frame) -> Result<(), LoadErrorKind>
     requires framed { Framed (sheet_words sheet.now o) c }
     requires words_bound { o.layout.words ≤ 520192 }
     ensures { result ≡ verdict_of (tables_faults (func_of (sheet_words sheet.now o) c)) }
 {
-    let mut left = c.tables;
     let mut p = c.body.tables + 1;
-    while 0 < left {
-        match check_table(sheet, o, c, p) {
-            Verdict::Holds => {}
-            Verdict::Broken(k) => {
-                return Verdict::Broken(k);
-            }
-        }
+    for _ in 0..c.tables {
+        check_table(sheet, o, c, p)?;
         p += 2 + word(sheet, p) as usize;
-        left -= 1;
     }
-    Verdict::Holds
+    Ok(())
 }
 
 // The last instruction, handlers, tables.
-pub fn check_parts(sheet: &[u8], o: Opened, c: Frame) -> Judged
+pub fn check_parts(sheet: &[u8], o: Opened, c: Frame) -> Result<(), LoadError>
     requires func_bound { c.func.0 + 1 < 4294967296 }
     requires framed { Framed (sheet_words sheet.now o) c }
     requires words_bound { o.layout.words ≤ 520192 }
     ensures { result ≡ judged_of (parts_faults c.func.0 (func_of (sheet_words sheet.now o) c)) }
 {
-    match check_last(sheet, o, c) {
-        Judged::Passed => {}
-        Judged::Refused(e) => {
-            return Judged::Refused(e);
-        }
-    }
-    match in_function(check_handlers(sheet, o, c), c.func) {
-        Judged::Passed => {}
-        Judged::Refused(e) => {
-            return Judged::Refused(e);
-        }
-    }
+    check_last(sheet, o, c)?;
+    in_function(check_handlers(sheet, o, c), c.func)?;
     in_function(check_tables(sheet, o, c), c.func)
 }

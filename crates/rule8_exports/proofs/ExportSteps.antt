@@ -10,7 +10,7 @@ use Rattle.lists.specs.ListLaws.{length_concat_map}
 use Rattle.blocks.specs.Blocks.{words}
 use Rattle.blocks.specs.Frame.{first_words}
 use Rattle.error.specs.declared.What.TheVariants.{Functions, Globals, Types}
-use Rattle.error.specs.declared.Verdict.{Verdict}
+use Rattle.error.specs.Verdict.{Verdict}
 use Rattle.error.specs.Answer.{in_range}
 use Rattle.error.specs.Verdict.{verdict_of}
 use Rattle.reader.specs.Reader.{got}

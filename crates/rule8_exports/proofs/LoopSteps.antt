@@ -8,9 +8,9 @@ use lib.ListN.{length, get_or}
 use Rattle.blocks.specs.Blocks.{words}
 use Rattle.blocks.specs.Frame.{first_words}
 use Rattle.error.specs.declared.LoadErrorKind.{LoadErrorKind}
-use Rattle.error.specs.declared.Verdict.{Verdict}
-use Rattle.error.specs.declared.Verdict.TheVariants.{Holds, Broken}
-use Rattle.error.specs.declared.Judged.{Judged}
+use Rattle.error.specs.Verdict.{Verdict}
+use Rattle.std.specs.Prelude.{Err, Ok}
+use Rattle.error.specs.Verdict.{Judged}
 use Rattle.error.specs.Answer.{in_module}
 use Rattle.error.specs.Verdict.{verdict_of, judged_of, placed}
 use Rattle.error.specs.VerdictLaws.{verdict_then, verdict_stop, placed_faults_lem}
@@ -35,12 +35,12 @@ reading : (ws : List ℕ) (o : Opened) → Opens ws o → {t : Bool} → t ≡ r
 reading ws o x e = ap reads_export_names (sym x.edition) ∙ sym e
 
 module _ (m : Module) (i : ℕ) (e : Export) {r : Verdict} (k : r ≡ verdict_of (index_faults m e)) where
-  pub index_stop : (b : LoadErrorKind) → r ≡ Broken b → Broken b ≡ verdict_of (export_faults m i e)
+  pub index_stop : (b : LoadErrorKind) → r ≡ Err b → Err b ≡ verdict_of (export_faults m i e)
   unfolding export_faults
   index_stop b z = verdict_stop (index_faults m e) (cond (reads_export_names m.edition) (name_faults m i e) []) b z k
 
   -- by whether names are read
-  then_name : (t : Bool) {s : Verdict} → reads_export_names m.edition ≡ t → r ≡ Holds → s ≡ verdict_of (cond t (name_faults m i e) []) →
+  then_name : (t : Bool) {s : Verdict} → reads_export_names m.edition ≡ t → r ≡ Ok tt → s ≡ verdict_of (cond t (name_faults m i e) []) →
       s ≡ verdict_of (export_faults m i e)
   unfolding export_faults
   then_name t f z l =
@@ -48,12 +48,12 @@ module _ (m : Module) (i : ℕ) (e : Export) {r : Verdict} (k : r ≡ verdict_of
       ∙ ap (λ (t : Bool). verdict_of (index_faults m e ++ cond t (name_faults m i e) [])) (sym f)
 
 module _ (ws w : List ℕ) (o : Opened) (x : Ready ws w o) (i : ℕ) {r : Verdict} {t : Bool}
-    (k : r ≡ verdict_of (index_faults (module_in ws) (export_at (module_in ws) i))) (z : r ≡ Holds) (f : t ≡ reads_export_names o.edition) where
+    (k : r ≡ verdict_of (index_faults (module_in ws) (export_at (module_in ws) i))) (z : r ≡ Ok tt) (f : t ≡ reads_export_names o.edition) where
   pub name_last : {s : Verdict} → t ≡ true → s ≡ verdict_of (name_faults (module_in ws) i (export_at (module_in ws) i)) →
       s ≡ verdict_of (export_faults (module_in ws) i (export_at (module_in ws) i))
   name_last g l = then_name (module_in ws) i (export_at (module_in ws) i) k true (reading ws o x.opens f ∙ g) z l
 
-  pub name_unread : t ≡ false → Holds ≡ verdict_of (export_faults (module_in ws) i (export_at (module_in ws) i))
+  pub name_unread : t ≡ false → Ok tt ≡ verdict_of (export_faults (module_in ws) i (export_at (module_in ws) i))
   unfolding verdict_of
   name_unread g = then_name (module_in ws) i (export_at (module_in ws) i) k false (reading ws o x.opens f ∙ g) z refl
 
@@ -69,7 +69,7 @@ module _ (ws w : List ℕ) (o : Opened) (x : Ready ws w o) (i : ℕ) {t : Bool} 
         let z : ◌≡◌ {A = ℕ} 0 1 = cc in absurd (omega arith);
   }
 
-  pub unread_then : t ≡ false → MarkedThen Holds (module_in ws) i w (6 * o.layout.words)
+  pub unread_then : t ≡ false → MarkedThen (Ok tt) (module_in ws) i w (6 * o.layout.words)
   unread_then g = record { holds = λ _. marks_unread g }
 
 -- ── exports by place ──
@@ -102,7 +102,7 @@ module _ (b w₀ : List ℕ) (o : Opened) where
     checked_above = x.above
 
     module _ {c : ℕ} (n : c ≡ get_or (words b) o.layout.exports 0) where
-      pub checked_all : c ≤ i → Holds ≡ verdict_of (broken_exports m)
+      pub checked_all : c ≤ i → Ok tt ≡ verdict_of (broken_exports m)
       unfolding broken_exports
       checked_all h = clears_holds (export_faults m) m.exports i x.clears (omega (arith, exports_counted b o x.ready.opens n))
 
@@ -111,7 +111,7 @@ module _ (b w₀ : List ℕ) (o : Opened) where
         checked_below = omega (arith, exports_counted b o x.ready.opens n)
 
         module _ (v : List ℕ) {r : Verdict} (k : r ≡ verdict_of (export_faults m i (export_at m i))) (a : Above o w v) where
-          pub checked_next : r ≡ Holds → MarkedThen r m (i + 1) v (6 * o.layout.words) → Checked ws w₀ v o (i + 1)
+          pub checked_next : r ≡ Ok tt → MarkedThen r m (i + 1) v (6 * o.layout.words) → Checked ws w₀ v o (i + 1)
           unfolding export_at
           checked_next e y = record {
             ready = ready_above o ws w v x.ready a;
@@ -120,7 +120,7 @@ module _ (b w₀ : List ℕ) (o : Opened) where
             clears = clears_pass (export_faults m) m.exports i x.clears no_export checked_below e k;
           }
 
-          pub checked_stop : (d : LoadErrorKind) → r ≡ Broken d → Broken d ≡ verdict_of (broken_exports m)
+          pub checked_stop : (d : LoadErrorKind) → r ≡ Err d → Err d ≡ verdict_of (broken_exports m)
           unfolding export_at broken_exports
           checked_stop d e = clears_stop (export_faults m) m.exports i x.clears no_export checked_below e k
 

@@ -10,7 +10,7 @@ use Rattle.blocks.specs.Blocks.{words}
 use Rattle.blocks.specs.Frame.{first_words}
 use Rattle.error.specs.declared.LoadErrorKind.{LoadErrorKind}
 use Rattle.error.specs.declared.LoadErrorKind.TheVariants.{ExportNameOutOfRange, DuplicateExport}
-use Rattle.error.specs.declared.Verdict.TheVariants.{Holds, Broken}
+use Rattle.std.specs.Prelude.{Err, Ok}
 use Rattle.error.specs.Answer.{string_number}
 use Rattle.error.specs.Verdict.{verdict_of}
 use Rattle.sheet.specs.Module.{Module}
@@ -27,7 +27,7 @@ use Rattle.rule8_exports.specs.MarkLaws.{name_in, mark_room, mark_clear, mark_se
 use Rattle.rule8_exports.proofs.ExportSteps.{export_name}
 
 -- nothing is to be said of the marks after a name that is refused
-pub refused_marks : (k : LoadErrorKind) (m : Module) (i : ℕ) (w : List ℕ) (base : ℕ) → MarkedThen (Broken k) m i w base
+pub refused_marks : (k : LoadErrorKind) (m : Module) (i : ℕ) (w : List ℕ) (base : ℕ) → MarkedThen (Err k) m i w base
 refused_marks k m i w base = record { holds = λ e. let z : ◌≡◌ {A = ℕ} 0 1 = cc in absurd (omega arith) }
 
 -- ── its range ──
@@ -42,11 +42,11 @@ module _ (b w : List ℕ) (o : Opened) (x : Ready (first_words b o.layout.words)
     name_is = export_name b o x.opens i h s ∙ sym e
 
     pub name_outside : o.counts.strings ≤ n →
-        Broken (ExportNameOutOfRange (string_number n)) ≡ verdict_of (name_faults (module_in ws) i (export_at (module_in ws) i))
+        Err (ExportNameOutOfRange (string_number n)) ≡ verdict_of (name_faults (module_in ws) i (export_at (module_in ws) i))
     unfolding verdict_of
     name_outside l =
         let e = export_at (module_in ws) i in
-        ap (λ (k : ℕ). Broken (ExportNameOutOfRange (string_number k))) (sym name_is)
+        ap (λ (k : ℕ). Err (ExportNameOutOfRange (string_number k))) (sym name_is)
         ∙ sym (ap verdict_of (name_absent (module_in ws) i e (omega (arith, name_is, count_strings ws o x.opens))))
 
     pub name_inside : n < o.counts.strings → NamesMarked (module_in ws) i w (6 * o.layout.words) → Naming ws w o i n
@@ -90,20 +90,20 @@ module _ (ws w : List ℕ) (o : Opened) (i n : ℕ) (x : Naming ws w o i n) wher
       string_named : (export_at m i).name < length m.strings
       string_named = name_in m (export_at m i) has
 
-      pub name_again : (t ≡ 0 → ⊥) → Broken (DuplicateExport i) ≡ verdict_of (name_faults m i (export_at m i))
+      pub name_again : (t ≡ 0 → ⊥) → Err (DuplicateExport i) ≡ verdict_of (name_faults m i (export_at m i))
       unfolding verdict_of
       name_again z =
           let d = mark_set m i w base x.marked (export_at m i) has (λ k. z (e ∙ sym word_is ∙ k)) in
           sym (ap verdict_of (name_taken m i (export_at m i) string_named d))
 
-      pub name_new : t ≡ 0 → Holds ≡ verdict_of (name_faults m i (export_at m i))
+      pub name_new : t ≡ 0 → Ok tt ≡ verdict_of (name_faults m i (export_at m i))
       unfolding verdict_of
       name_new z =
           let d = mark_clear m i w base x.marked (export_at m i) has (word_is ∙ sym e ∙ z) in
           sym (ap verdict_of (name_free m i (export_at m i) string_named d))
 
     module _ (v : List ℕ) (q : v ≡ set w (base + c) 1) where
-      pub name_marked : MarkedThen Holds m (i + 1) v base
+      pub name_marked : MarkedThen (Ok tt) m (i + 1) v base
       name_marked =
           let k : v ≡ set w (base + canon_name m (export_at m i)) 1 = q ∙ ap (λ (k : ℕ). set w (base + k) 1) canon_is in
           record { holds = λ _. record { read = λ _. marks_next m i w base x.marked x.below has v k } }

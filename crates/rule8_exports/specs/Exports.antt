@@ -2,8 +2,8 @@
 use Rattle.std.specs.Prelude.{ℕ, ◌+◌, ◌*◌, ◌≤◌, ◌<◌, ◌≡◌, List, Bool, true, cond, eqb, ltb, length, get_or, take}
 use Rattle.lists.specs.Lists.{all_of, any_of, concat_map_from}
 use Rattle.error.specs.declared.LoadErrorKind.{LoadErrorKind}
-use Rattle.error.specs.declared.Verdict.{Verdict}
-use Rattle.error.specs.declared.Verdict.TheVariants.{Holds}
+use Rattle.error.specs.Verdict.{Verdict}
+use Rattle.std.specs.Prelude.{Ok}
 use Rattle.sheet.specs.Module.{Export, Module}
 use Rattle.sheet.specs.Editions.{reads_export_names}
 use Rattle.canon.specs.Canon.{canon_string}
@@ -40,7 +40,7 @@ pub record MarkedIf (m : Module) (i : ℕ) (w : List ℕ) (base : ℕ) : Type 0 
 
 -- and after an export that holds
 pub record MarkedThen (r : Verdict) (m : Module) (i : ℕ) (w : List ℕ) (base : ℕ) : Type 0 where
-  pub holds : r ≡ Holds → MarkedIf m i w base
+  pub holds : r ≡ Ok tt → MarkedIf m i w base
 
 -- n is the name of the export at place i, a string, and the names before it are marked
 pub record Naming (ws w : List ℕ) (o : Opened) (i n : ℕ) : Type 0 where

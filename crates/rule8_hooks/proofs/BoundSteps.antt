@@ -1,21 +1,21 @@
 -- What a hook is bound to, judged step by step.
-use Prim.Native.Nat.{ℕ, ◌+◌, ◌*◌, ◌≤◌, ◌<◌}
-use mathlib.Core.Path.{◌≡◌, refl, sym, ap, ap₂, ◌∙◌}
-use mathlib.Core.List.{List, ◌++◌}
+use Prim.Native.Nat.{ℕ, ◌+◌, ◌*◌, ◌<◌}
+use mathlib.Core.Path.{◌≡◌, refl, sym, ap, ◌∙◌}
+use mathlib.Core.List.{List, [], ◌++◌}
 use mathlib.Core.Bool.{Bool, true, false, ◌&&◌}
-use native.Mathlib.Omega.{arith}
 use lib.Dec.{eqb, ltb}
 use lib.ListN.{length, get_or}
-use borrow.Author.Tests.{eq-eqb, ne_eqb, lt-ltb, le-ltb}
+use borrow.Author.Tests.{eq-eqb, ne_eqb, ltb-true}
 use Rattle.blocks.specs.Blocks.{words}
 use Rattle.blocks.specs.Frame.{first_words}
 use Rattle.error.specs.declared.What.{What}
 use Rattle.error.specs.declared.What.TheVariants.{Functions, Imports}
 use Rattle.error.specs.declared.LoadErrorKind.{LoadErrorKind}
 use Rattle.error.specs.declared.LoadErrorKind.TheVariants.{OutOfRange, BadHook}
-use Rattle.error.specs.declared.Verdict.TheVariants.{Holds, Broken}
+use Rattle.std.specs.Prelude.{Err, Ok}
 use Rattle.error.specs.Answer.{unless, in_range}
-use Rattle.error.specs.Verdict.{verdict_of}
+use Rattle.error.specs.Verdict.{Verdict, verdict_of}
+use Rattle.error.specs.VerdictLaws.{none_broken, verdict_then, verdict_stop}
 use Rattle.imports.specs.Params.{sig_params, sig_results}
 use Rattle.code.specs.Callee.{no_func, no_import, func_at, import_at, no_captures}
 use Rattle.hooks.specs.Hooks.{hook_shape, hook_fits, hook_function_faults, hook_import_faults}
@@ -28,21 +28,20 @@ use Rattle.rule8_hooks.specs.Bindings.{function_fits, import_fits}
 
 -- ── a number in range, and then one rule ──
 
-module _ (what : What) (n i : ℕ) (k : LoadErrorKind) (t : Bool) where
-  both : (x y : Bool) → ltb i n ≡ x → t ≡ y → verdict_of (unless x (OutOfRange what i) ++ unless y k) ≡ verdict_of (in_range what n i ++ unless t k)
-  both x y e z = sym (ap₂ (λ x y. verdict_of (unless x (OutOfRange what i) ++ unless y k)) e z)
+module _ (what : What) (n i : ℕ) {r : Verdict} (e : r ≡ verdict_of (in_range what n i)) where
+  pub range_below : r ≡ Ok tt → i < n
+  range_below h = go (ltb i n) refl (none_broken (in_range what n i) h e)
+    where
+      go : (t : Bool) → ltb i n ≡ t → unless t (OutOfRange what i) ≡ [] → i < n
+      go true k z = ltb-true i n k
+      go false k z = cc
 
-  bound_holds : i < n → t ≡ true → Holds ≡ verdict_of (in_range what n i ++ unless t k)
-  unfolding verdict_of
-  bound_holds l z = both true true (lt-ltb i n l) z
+  module _ (k : LoadErrorKind) (t : Bool) where
+    bound_stop : {b : LoadErrorKind} → r ≡ Err b → Err b ≡ verdict_of (in_range what n i ++ unless t k)
+    bound_stop {b} h = verdict_stop (in_range what n i) (unless t k) b h e
 
-  bound_broken : i < n → t ≡ false → Broken k ≡ verdict_of (in_range what n i ++ unless t k)
-  unfolding verdict_of
-  bound_broken l z = both true false (lt-ltb i n l) z
-
-  bound_missing : n ≤ i → Broken (OutOfRange what i) ≡ verdict_of (in_range what n i ++ unless t k)
-  unfolding verdict_of
-  bound_missing l = both false t (le-ltb i n l) refl
+    bound_then : {x : Verdict} → r ≡ Ok tt → {y : Bool} → t ≡ y → x ≡ verdict_of (unless y k) → x ≡ verdict_of (in_range what n i ++ unless t k)
+    bound_then h z u = verdict_then (in_range what n i) (unless t k) h e (u ∙ ap (λ (y : Bool). verdict_of (unless y k)) (sym z))
 
 -- ── a function ──
 
@@ -70,19 +69,22 @@ module _ (b w : List ℕ) (o : Opened) (x : Ready (first_words b o.layout.words)
     pub function_captures : (c ≡ 0 → ⊥) → false ≡ function_fits (module_in ws) k f
     function_captures z = captures false (ne_eqb c 0 z)
 
-  module _ (k : ℕ) {s : Bool} (e : s ≡ function_fits (module_in ws) k f) where
-    pub function_holds : s ≡ true → Holds ≡ verdict_of (hook_function_faults (module_in ws) k f)
-    unfolding hook_function_faults function_fits
-    function_holds z = bound_holds Functions (length (module_in ws).funcs) f (BadHook k) (function_fits (module_in ws) k f) inside (sym e ∙ z)
+module _ (ws w : List ℕ) (o : Opened) (x : Ready ws w o) (k f : ℕ) {r : Verdict} (e : r ≡ verdict_of (in_range Functions o.counts.funcs f)) where
+  counted : r ≡ verdict_of (in_range Functions (length (module_in ws).funcs) f)
+  counted = e ∙ ap (λ (n : ℕ). verdict_of (in_range Functions n f)) (count_funcs ws o x.opens)
 
-    pub function_broken : s ≡ false → Broken (BadHook k) ≡ verdict_of (hook_function_faults (module_in ws) k f)
-    unfolding hook_function_faults function_fits
-    function_broken z = bound_broken Functions (length (module_in ws).funcs) f (BadHook k) (function_fits (module_in ws) k f) inside (sym e ∙ z)
+  pub function_stop : {b : LoadErrorKind} → r ≡ Err b → Err b ≡ verdict_of (hook_function_faults (module_in ws) k f)
+  unfolding hook_function_faults function_fits
+  function_stop = bound_stop Functions (length (module_in ws).funcs) f counted (BadHook k) (function_fits (module_in ws) k f)
 
-pub function_missing : (ws w : List ℕ) (o : Opened) (k f : ℕ) → Ready ws w o → o.counts.funcs ≤ f → Broken (OutOfRange Functions f) ≡ verdict_of (hook_function_faults (module_in ws) k f)
-unfolding hook_function_faults function_fits
-function_missing ws w o k f x h =
-    bound_missing Functions (length (module_in ws).funcs) f (BadHook k) (function_fits (module_in ws) k f) (omega (arith, count_funcs ws o x.opens))
+  module _ {s : Bool} (h : r ≡ Ok tt) (d : s ≡ function_fits (module_in ws) k f) where
+    pub function_holds : s ≡ true → Ok tt ≡ verdict_of (hook_function_faults (module_in ws) k f)
+    unfolding hook_function_faults function_fits verdict_of
+    function_holds z = bound_then Functions (length (module_in ws).funcs) f counted (BadHook k) (function_fits (module_in ws) k f) h (sym d ∙ z) refl
+
+    pub function_broken : s ≡ false → Err (BadHook k) ≡ verdict_of (hook_function_faults (module_in ws) k f)
+    unfolding hook_function_faults function_fits verdict_of
+    function_broken z = bound_then Functions (length (module_in ws).funcs) f counted (BadHook k) (function_fits (module_in ws) k f) h (sym d ∙ z) refl
 
 -- ── an import ──
 
@@ -99,16 +101,19 @@ module _ (b w : List ℕ) (o : Opened) (x : Ready (first_words b o.layout.words)
     unfolding import_fits import_at
     import_fits_lem k u q = q ∙ ap (λ s. hook_fits (hook_shape k) (sig_params (module_in ws₂) s) (sig_results (module_in ws₂) s)) (import_sig b w o x i h e no_import u)
 
-  module _ (k : ℕ) {s : Bool} (e : s ≡ import_fits (module_in ws₂) k i) where
-    pub import_holds : s ≡ true → Holds ≡ verdict_of (hook_import_faults (module_in ws₂) k i)
-    unfolding hook_import_faults import_fits
-    import_holds z = bound_holds Imports (length (module_in ws₂).imports) i (BadHook k) (import_fits (module_in ws₂) k i) inside₂ (sym e ∙ z)
+module _ (ws w : List ℕ) (o : Opened) (x : Ready ws w o) (k i : ℕ) {r : Verdict} (e : r ≡ verdict_of (in_range Imports o.counts.imports i)) where
+  counted₂ : r ≡ verdict_of (in_range Imports (length (module_in ws).imports) i)
+  counted₂ = e ∙ ap (λ (n : ℕ). verdict_of (in_range Imports n i)) (count_imports ws o x.opens)
 
-    pub import_broken : s ≡ false → Broken (BadHook k) ≡ verdict_of (hook_import_faults (module_in ws₂) k i)
-    unfolding hook_import_faults import_fits
-    import_broken z = bound_broken Imports (length (module_in ws₂).imports) i (BadHook k) (import_fits (module_in ws₂) k i) inside₂ (sym e ∙ z)
+  pub import_stop : {b : LoadErrorKind} → r ≡ Err b → Err b ≡ verdict_of (hook_import_faults (module_in ws) k i)
+  unfolding hook_import_faults import_fits
+  import_stop = bound_stop Imports (length (module_in ws).imports) i counted₂ (BadHook k) (import_fits (module_in ws) k i)
 
-pub import_missing : (ws w : List ℕ) (o : Opened) (k i : ℕ) → Ready ws w o → o.counts.imports ≤ i → Broken (OutOfRange Imports i) ≡ verdict_of (hook_import_faults (module_in ws) k i)
-unfolding hook_import_faults import_fits
-import_missing ws w o k i x h =
-    bound_missing Imports (length (module_in ws).imports) i (BadHook k) (import_fits (module_in ws) k i) (omega (arith, count_imports ws o x.opens))
+  module _ {s : Bool} (h : r ≡ Ok tt) (d : s ≡ import_fits (module_in ws) k i) where
+    pub import_holds : s ≡ true → Ok tt ≡ verdict_of (hook_import_faults (module_in ws) k i)
+    unfolding hook_import_faults import_fits verdict_of
+    import_holds z = bound_then Imports (length (module_in ws).imports) i counted₂ (BadHook k) (import_fits (module_in ws) k i) h (sym d ∙ z) refl
+
+    pub import_broken : s ≡ false → Err (BadHook k) ≡ verdict_of (hook_import_faults (module_in ws) k i)
+    unfolding hook_import_faults import_fits verdict_of
+    import_broken z = bound_then Imports (length (module_in ws).imports) i counted₂ (BadHook k) (import_fits (module_in ws) k i) h (sym d ∙ z) refl

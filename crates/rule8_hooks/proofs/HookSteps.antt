@@ -1,6 +1,6 @@
 -- Bindings of hooks judged word by word.
-use Prim.Native.Nat.{ℕ, ◌+◌, ◌-◌, ◌<◌}
-use mathlib.Core.Path.{◌≡◌, sym, ap, ap₂, ◌∙◌}
+use Prim.Native.Nat.{ℕ, ◌+◌, ◌<◌}
+use mathlib.Core.Path.{◌≡◌, refl, sym, ap, ap₂, ◌∙◌}
 use mathlib.Core.List.{List, []}
 use mathlib.Core.Bool.{Bool, true, false, cond}
 use native.Mathlib.Omega.{arith}
@@ -10,24 +10,26 @@ use borrow.Author.Tests.{eq-eqb, ne_eqb}
 use Rattle.lists.specs.Lists.{concat_map}
 use Rattle.blocks.specs.Blocks.{words}
 use Rattle.blocks.specs.Frame.{first_words}
-use Rattle.error.specs.declared.LoadErrorKind.{LoadErrorKind}
-use Rattle.error.specs.declared.Verdict.{Verdict}
-use Rattle.error.specs.declared.Verdict.TheVariants.{Holds}
-use Rattle.error.specs.declared.Judged.{Judged}
+use Rattle.error.specs.Verdict.{Verdict}
+use Rattle.error.specs.Verdict.{Judged}
 use Rattle.error.specs.Answer.{in_module}
 use Rattle.error.specs.Verdict.{verdict_of, judged_of, placed}
 use Rattle.error.specs.VerdictLaws.{placed_faults_lem}
 use Rattle.reader.specs.Reader.{list_of}
 use Rattle.reader.specs.Value.{Whole, value_of}
 use Rattle.reader.specs.ValueLaws.{whole_inv, got_whole, value_got}
-use Rattle.sheet.specs.Module.{Hook, Module}
+use Rattle.reader.proofs.SizeLaws.{Takes, coded_takes}
+use Rattle.sheet.specs.Module.{Module}
 use Rattle.sheet.specs.Decode.{hook_of}
+use Rattle.sheet.specs.Encode.{encode_hook}
+use Rattle.sheet.specs.Coded.{coded_hook}
+use Rattle.sheet.proofs.ModuleCodes.{hook_codes}
 use Rattle.hooks.specs.Hooks.{hook_function_faults, hook_import_faults, hook_faults, hooks_faults}
-use Rattle.hooks.specs.HookLaws.{hook_end, hook_in, hook_number, hook_kind, hook_index, hook_known}
+use Rattle.hooks.specs.HookLaws.{hook_in, hook_number, hook_kind, hook_index, hook_known}
 use Rattle.open_layout.specs.Opened.{module_in}
 use Rattle.open_sheet.specs.declared.Opened.{Opened}
 use Rattle.open_sheet.specs.Ready.{Ready}
-use Rattle.law_judging.specs.Judging.{Judges, list_faults, judges_next}
+use Rattle.law_judging.specs.Judging.{list_faults}
 use Rattle.rule8_hooks.specs.Bindings.{no_hook}
 
 -- ── one binding ──
@@ -59,9 +61,9 @@ module _ (b : List ℕ) (n at : ℕ) (h : Whole (hook_of (first_words b n) at)) 
 pub hooks_whole : (ws w : List ℕ) (o : Opened) → Ready ws w o → Whole (list_of hook_of ws o.layout.hooks)
 hooks_whole ws w o x = got_whole x.opens.located.hooks
 
-module _ (faults : Hook → List LoadErrorKind) (b : List ℕ) (n at left q : ℕ) (x : Judges hook_of faults (first_words b n) at left q) (h : 0 < left) where
-  pub hooks_next : {r : Verdict} → r ≡ Holds → r ≡ verdict_of (faults (value_of no_hook (hook_of (first_words b n) q))) → Judges hook_of faults (first_words b n) at (left - 1) (q + 3)
-  hooks_next e k = judges_next hook_of faults (first_words b n) at left q x h no_hook (q + 3) e k λ a p g. hook_end b n q g
+pub hook_takes : Takes hook_of 3
+unfolding encode_hook
+hook_takes = coded_takes hook_of encode_hook coded_hook 3 hook_codes (λ a. refl) (omega arith)
 
 pub hooks_judged : (ws w : List ℕ) (o : Opened) {v : Verdict} {r : Judged} → Ready ws w o → v ≡ verdict_of (list_faults (hook_faults (module_in ws)) (list_of hook_of ws o.layout.hooks))
     → r ≡ placed in_module v → r ≡ judged_of (hooks_faults (module_in ws))

@@ -1,25 +1,27 @@
 -- The start function judged step by step.
-use Prim.Native.Nat.{ℕ, ◌+◌, ◌-◌, ◌*◌, ◌≤◌, ◌<◌}
+use Prim.Native.Nat.{ℕ, ◌+◌, ◌-◌, ◌*◌, ◌<◌}
 use mathlib.Core.Path.{◌≡◌, refl, sym, ap, ap₂, ◌∙◌}
-use mathlib.Core.List.{List, ◌++◌, map}
+use mathlib.Core.List.{List, [], ◌++◌, map}
 use mathlib.Core.Bool.{Bool, true, false, ◌&&◌}
 use native.Mathlib.Omega.{arith}
 use native.Mathlib.Numerals.{add-one}
-use lib.Dec.{eqb}
+use lib.Dec.{eqb, ltb}
 use lib.ListN.{length, get_or}
-use borrow.Author.Tests.{eq-eqb, ne_eqb, lt-ltb, le-ltb}
+use borrow.Author.Tests.{eq-eqb, ne_eqb, lt-ltb, ltb-true}
 use Rattle.blocks.specs.Blocks.{words}
 use Rattle.blocks.specs.Frame.{first_words}
 use Rattle.blocks.proofs.FirstWords.{length_first_words, first_words_at}
+use Rattle.error.specs.declared.What.{What}
 use Rattle.error.specs.declared.What.TheVariants.{Functions}
+use Rattle.error.specs.declared.LoadErrorKind.{LoadErrorKind}
 use Rattle.error.specs.declared.LoadErrorKind.TheVariants.{OutOfRange, BadStart, CalleeHasCaptures}
-use Rattle.error.specs.declared.Verdict.{Verdict}
-use Rattle.error.specs.declared.Verdict.TheVariants.{Holds, Broken}
-use Rattle.error.specs.declared.Judged.{Judged}
-use Rattle.error.specs.declared.Judged.TheVariants.{Passed}
+use Rattle.error.specs.Verdict.{Verdict}
+use Rattle.std.specs.Prelude.{Err, Ok}
+use Rattle.error.specs.Verdict.{Judged}
+use Rattle.std.specs.Prelude.{Ok}
 use Rattle.error.specs.Answer.{in_module, unless, in_range}
 use Rattle.error.specs.Verdict.{verdict_of, judged_of, placed}
-use Rattle.error.specs.VerdictLaws.{placed_faults_lem}
+use Rattle.error.specs.VerdictLaws.{none_broken, verdict_stop, placed_faults_lem}
 use Rattle.reader.specs.ReaderLaws.{stands_in, stands_at, word_codes}
 use Rattle.imports.specs.Params.{sig_params, sig_results}
 use Rattle.code.specs.Callee.{no_func, func_at, no_captures}
@@ -78,7 +80,7 @@ module _ (b w : List ℕ) (o : Opened) (x : Ready (first_words b o.layout.words)
             ≡ verdict_of (start_at_faults (module_in ws) (f + 1))
         opened = unfold start_at_faults in ap (λ i. verdict_of (start_at_faults (module_in ws) i)) (sym (add-one f))
 
-    pub bad_start : s ≡ false → Broken BadStart ≡ verdict_of (start_at_faults (module_in ws) (f + 1))
+    pub bad_start : s ≡ false → Err BadStart ≡ verdict_of (start_at_faults (module_in ws) (f + 1))
     unfolding verdict_of
     bad_start z = faults false (no_captures (func_at (module_in ws) f)) (sym e ∙ z) refl refl
 
@@ -87,23 +89,34 @@ module _ (b w : List ℕ) (o : Opened) (x : Ready (first_words b o.layout.words)
       unfolding func_at
       counted = k ∙ y.captures f no_func inside
 
-      pub start_holds : s ≡ true → c ≡ 0 → Holds ≡ verdict_of (start_at_faults (module_in ws) (f + 1))
+      pub start_holds : s ≡ true → c ≡ 0 → Ok tt ≡ verdict_of (start_at_faults (module_in ws) (f + 1))
       unfolding verdict_of no_captures
       start_holds z u = faults true true (sym e ∙ z) (ap (λ i. eqb i 0) (sym counted) ∙ eq-eqb c 0 u) refl
 
-      pub start_captures : s ≡ true → (c ≡ 0 → ⊥) → Broken CalleeHasCaptures ≡ verdict_of (start_at_faults (module_in ws) (f + 1))
+      pub start_captures : s ≡ true → (c ≡ 0 → ⊥) → Err CalleeHasCaptures ≡ verdict_of (start_at_faults (module_in ws) (f + 1))
       unfolding verdict_of no_captures
       start_captures z u = faults true false (sym e ∙ z) (ap (λ i. eqb i 0) (sym counted) ∙ ne_eqb c 0 u) refl
 
-pub start_missing : (ws w : List ℕ) (o : Opened) (f : ℕ) → Ready ws w o → o.counts.funcs ≤ f →
-    Broken (OutOfRange Functions f) ≡ verdict_of (start_at_faults (module_in ws) (f + 1))
-unfolding start_at_faults verdict_of
-start_missing ws w o f x h =
-    let l : length (module_in ws).funcs ≤ f = omega (arith, count_funcs ws o x.opens) in
-    ap (λ i. verdict_of (unless i (OutOfRange Functions f) ++ unless (is_start (module_in ws) (func_at (module_in ws) f)) BadStart
-    ++ unless (no_captures (func_at (module_in ws) f)) CalleeHasCaptures))
-    (sym (le-ltb f (length (module_in ws).funcs) l))
-    ∙ ap (λ i. verdict_of (start_at_faults (module_in ws) i)) (sym (add-one f))
+-- ── its number ──
+
+pub range_below : (what : What) (n i : ℕ) {r : Verdict} → r ≡ verdict_of (in_range what n i) → r ≡ Ok tt → i < n
+range_below what n i e h = go (ltb i n) refl (none_broken (in_range what n i) h e)
+  where
+    go : (t : Bool) → ltb i n ≡ t → unless t (OutOfRange what i) ≡ [] → i < n
+    go true k z = ltb-true i n k
+    go false k z = cc
+
+pub start_missing : (ws w : List ℕ) (o : Opened) (f : ℕ) → Ready ws w o → {r : Verdict} → r ≡ verdict_of (in_range Functions o.counts.funcs f) →
+    {b : LoadErrorKind} → r ≡ Err b → Err b ≡ verdict_of (start_at_faults (module_in ws) (f + 1))
+unfolding start_at_faults
+start_missing ws w o f x e {b} h =
+    let m = module_in ws in
+    let xs = in_range Functions (length m.funcs) f in
+    let ys = unless (is_start m (func_at m f)) BadStart in
+    let zs = unless (no_captures (func_at m f)) CalleeHasCaptures in
+    let k : Err b ≡ verdict_of xs = sym h ∙ e ∙ ap (λ (n : ℕ). verdict_of (in_range Functions n f)) (count_funcs ws o x.opens) in
+    verdict_stop (xs ++ ys) zs b refl (verdict_stop xs ys b refl k)
+    ∙ ap (λ i. verdict_of (start_at_faults m i)) (sym (add-one f))
 
 -- ── the start word ──
 
@@ -116,7 +129,7 @@ module _ (b w : List ℕ) (o : Opened) (x : Ready (first_words b o.layout.words)
       let z : o.layout.start + 0 ≡ o.layout.start = omega arith in
       sym (stands_at ws st 0 (omega arith)) ∙ ap (λ i. get_or ws i 0) z ∙ first_words_at b o.layout.words o.layout.start l ∙ sym e
 
-  pub no_start : s ≡ 0 → Passed ≡ judged_of (start_faults (module_in (first_words b o.layout.words)))
+  pub no_start : s ≡ 0 → Ok tt ≡ judged_of (start_faults (module_in (first_words b o.layout.words)))
   unfolding start_faults start_at_faults judged_of
   no_start z = sym (ap (λ i. judged_of (map in_module (start_at_faults (module_in (first_words b o.layout.words)) i))) (start_word ∙ z))
 

@@ -7,8 +7,8 @@ use native.Mathlib.Decide.{dec_lt}
 use lib.ListN.{get_or}
 use Rattle.blocks.specs.Blocks.{words}
 use Rattle.blocks.specs.Frame.{first_words}
-use Rattle.reader.specs.declared.Step.{Step}
-use Rattle.reader.specs.declared.Step.TheVariants.{Next, Broken}
+use Rattle.std.specs.Prelude.{Option}
+use Rattle.std.specs.Option.{unwrap_or}
 use Rattle.reader.specs.Reader.{broken, got, Reader, word, many, list_of}
 use Rattle.reader.specs.ReaderLaws.{then_inv}
 use Rattle.reader.specs.Step.{step_of}
@@ -23,39 +23,29 @@ use Rattle.code.specs.Callee.{no_func}
 use Rattle.rule_bodies.specs.declared.Body.{Body}
 use Rattle.rule_bodies.specs.declared.Front.{Front}
 use Rattle.rule_bodies.specs.declared.Back.{Back}
-use Rattle.rule_bodies.specs.Bodies.{Placed, end_of, Fronts, Backs}
-
--- ── a step ──
-
-pub end_next : {s : Step} (q : ℕ) → s ≡ Next q → q ≡ end_of s
-unfolding end_of
-end_next q e = ap end_of (sym e)
-
-pub end_broken : {s : Step} → s ≡ Broken → 0 ≡ end_of s
-unfolding end_of
-end_broken e = ap end_of (sym e)
+use Rattle.rule_bodies.specs.Bodies.{Placed, Fronts, Backs}
 
 -- ── four parts ──
 
-module _ (ws : List ℕ) (at p₁ p₂ p₃ p₄ : ℕ) {r₁ r₂ r₃ r₄ : Step} where
-  pub fronts : r₁ ≡ step_of (list_of value_type ws (at + 1)) → p₁ ≡ end_of r₁ → r₂ ≡ step_of (param_list ws p₁) → p₂ ≡ end_of r₂ →
-      r₃ ≡ step_of (list_of (list_of (many 2 word)) ws p₂) → p₃ ≡ end_of r₃ → r₄ ≡ step_of (list_of value_type ws p₃) → p₄ ≡ end_of r₄ →
+module _ (ws : List ℕ) (at p₁ p₂ p₃ p₄ : ℕ) {r₁ r₂ r₃ r₄ : Option ℕ} where
+  pub fronts : r₁ ≡ step_of (list_of value_type ws (at + 1)) → p₁ ≡ unwrap_or r₁ 0 → r₂ ≡ step_of (param_list ws p₁) → p₂ ≡ unwrap_or r₂ 0 →
+      r₃ ≡ step_of (list_of (list_of (many 2 word)) ws p₂) → p₃ ≡ unwrap_or r₃ 0 → r₄ ≡ step_of (list_of value_type ws p₃) → p₄ ≡ unwrap_or r₄ 0 →
       Fronts ws at (record { params = p₁; shapes = p₂; captures = p₃; names = p₄ })
   fronts a b c d e f g h = record {
-    params = b ∙ ap end_of a;
-    shapes = d ∙ ap end_of c;
-    captures = f ∙ ap end_of (shapes_alike ws p₂ e);
-    names = h ∙ ap end_of g;
+    params = b ∙ ap (λ s. unwrap_or s 0) a;
+    shapes = d ∙ ap (λ s. unwrap_or s 0) c;
+    captures = f ∙ ap (λ s. unwrap_or s 0) (shapes_alike ws p₂ e);
+    names = h ∙ ap (λ s. unwrap_or s 0) g;
   }
 
-  pub backs : r₁ ≡ step_of (list_of (many 1 word) ws at) → p₁ ≡ end_of r₁ → r₂ ≡ step_of (list_of (many 1 word) ws p₁) → p₂ ≡ end_of r₂ →
-      r₃ ≡ step_of (list_of (many 4 word) ws p₂) → p₃ ≡ end_of r₃ → r₄ ≡ step_of (list_of switch_of ws p₃) → p₄ ≡ end_of r₄ →
+  pub backs : r₁ ≡ step_of (list_of (many 1 word) ws at) → p₁ ≡ unwrap_or r₁ 0 → r₂ ≡ step_of (list_of (many 1 word) ws p₁) → p₂ ≡ unwrap_or r₂ 0 →
+      r₃ ≡ step_of (list_of (many 4 word) ws p₂) → p₃ ≡ unwrap_or r₃ 0 → r₄ ≡ step_of (list_of switch_of ws p₃) → p₄ ≡ unwrap_or r₄ 0 →
       Backs ws at (record { type_refs = p₁; handlers = p₂; tables = p₃; code = p₄ })
   backs a b c d e f g h = record {
-    type_refs = b ∙ ap end_of (sized_list sized_word ws at a);
-    handlers = d ∙ ap end_of (sized_list sized_word ws p₁ c);
-    tables = f ∙ ap end_of (sized_list handler_sized ws p₂ e);
-    code = h ∙ ap end_of g;
+    type_refs = b ∙ ap (λ s. unwrap_or s 0) (sized_list sized_word ws at a);
+    handlers = d ∙ ap (λ s. unwrap_or s 0) (sized_list sized_word ws p₁ c);
+    tables = f ∙ ap (λ s. unwrap_or s 0) (sized_list handler_sized ws p₂ e);
+    code = h ∙ ap (λ s. unwrap_or s 0) g;
   }
 
 -- ── all ten ──
@@ -72,9 +62,9 @@ function_within b n at h = go (dec_lt at n)
 
 -- where a part ends, its position known by another name
 module _ {A : Type 0} (f : Reader A) (ws : List ℕ) {p p₁ q r : ℕ} {a : A} (e : p₁ ≡ p) (g : f ws p ≡ got a q) where
-  lands : r ≡ end_of (step_of (f ws p₁)) → r ≡ q
-  unfolding step_of end_of
-  lands h = h ∙ ap (λ x. end_of (step_of x)) (ap (f ws) e ∙ g)
+  lands : r ≡ unwrap_or (step_of (f ws p₁)) 0 → r ≡ q
+  unfolding step_of
+  lands h = h ∙ ap (λ x. unwrap_or (step_of x) 0) (ap (f ws) e ∙ g)
 
   stands : r ≡ q → f ws p₁ ≡ got a r
   stands h = ap (f ws) e ∙ g ∙ ap (got a) (sym h)

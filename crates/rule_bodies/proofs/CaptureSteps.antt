@@ -13,6 +13,7 @@ use Rattle.reader.proofs.SizeLaws.{list_count}
 use Rattle.sheet.specs.Module.{Func}
 use Rattle.sheet.specs.Decode.{value_type, handler_of, switch_of, function_of}
 use Rattle.open_layout.specs.Opened.{module_in}
+use Rattle.std.specs.Option.{unwrap_or}
 use Rattle.region.specs.Region.{Off, Frame, word_at}
 use Rattle.region.specs.RegionLaws.{frame_refl, fill_more}
 use Rattle.open_sheet.specs.declared.Opened.{Opened}
@@ -21,7 +22,7 @@ use Rattle.open_sheet.specs.ReadyLaws.{count_funcs, entry_room, entry_whole, ent
 use Rattle.code.specs.Callee.{no_func, func_at}
 use Rattle.rule_bodies.specs.declared.Front.{Front}
 use Rattle.rule_bodies.specs.declared.Back.{Back}
-use Rattle.rule_bodies.specs.Bodies.{end_of, Fronts, Backs, Countable}
+use Rattle.rule_bodies.specs.Bodies.{Fronts, Backs, Countable}
 use Rattle.rule_bodies.proofs.BodySteps.{placed_body}
 
 -- ── one function ──
@@ -29,10 +30,10 @@ use Rattle.rule_bodies.proofs.BodySteps.{placed_body}
 -- the parts after the names, wherever they stand
 back_at : (ws : List ℕ) (names : ℕ) {C : Type 0} → ((y : Back) → Backs ws names y → C) → C
 back_at ws names k =
-    let p₁ = end_of (step_of (list_of word ws names)) in
-    let p₂ = end_of (step_of (list_of word ws p₁)) in
-    let p₃ = end_of (step_of (list_of handler_of ws p₂)) in
-    let p₄ = end_of (step_of (list_of switch_of ws p₃)) in
+    let p₁ = unwrap_or (step_of (list_of word ws names)) 0 in
+    let p₂ = unwrap_or (step_of (list_of word ws p₁)) 0 in
+    let p₃ = unwrap_or (step_of (list_of handler_of ws p₂)) 0 in
+    let p₄ = unwrap_or (step_of (list_of switch_of ws p₃)) 0 in
     k (record { type_refs = p₁; handlers = p₂; tables = p₃; code = p₄ }) (record { type_refs = refl; handlers = refl; tables = refl; code = refl })
 
 pub captures_counted : (b : List ℕ) (n at : ℕ) {x : Front} {r : ℕ} → Whole (function_of (first_words b n) at) → Fronts (first_words b n) at x → r ≡ get_or (words b) x.captures 0 →

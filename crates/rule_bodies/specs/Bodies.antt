@@ -1,7 +1,6 @@
 -- Where the ten parts of a function stand.
 use Rattle.std.specs.Prelude.{ℕ, ◌+◌, ◌*◌, ◌≤◌, ◌<◌, ◌≡◌, List, length}
-use Rattle.reader.specs.declared.Step.{Step}
-use Rattle.reader.specs.declared.Step.TheVariants.{Next, Broken}
+use Rattle.std.specs.Option.{unwrap_or}
 use Rattle.reader.specs.Reader.{got, word, list_of}
 use Rattle.reader.specs.Step.{step_of}
 use Rattle.sheet.specs.Module.{Func}
@@ -29,23 +28,18 @@ pub record Placed (ws : List ℕ) (f : Func) (r : Body) : Type 0 where
 
 -- ── as code finds them, four at a time ──
 
--- where a step ends
-unfoldable pub end_of : Step → ℕ
-end_of (Next q) = q
-end_of Broken = 0
-
 -- each part of a function at `at` begins where the one before it ends
 pub record Fronts (ws : List ℕ) (at : ℕ) (r : Front) : Type 0 where
-  pub params : r.params ≡ end_of (step_of (list_of value_type ws (at + 1)))
-  pub shapes : r.shapes ≡ end_of (step_of (param_list ws r.params))
-  pub captures : r.captures ≡ end_of (step_of (list_of (list_of arg_of) ws r.shapes))
-  pub names : r.names ≡ end_of (step_of (list_of value_type ws r.captures))
+  pub params : r.params ≡ unwrap_or (step_of (list_of value_type ws (at + 1))) 0
+  pub shapes : r.shapes ≡ unwrap_or (step_of (param_list ws r.params)) 0
+  pub captures : r.captures ≡ unwrap_or (step_of (list_of (list_of arg_of) ws r.shapes)) 0
+  pub names : r.names ≡ unwrap_or (step_of (list_of value_type ws r.captures)) 0
 
 pub record Backs (ws : List ℕ) (names : ℕ) (r : Back) : Type 0 where
-  pub type_refs : r.type_refs ≡ end_of (step_of (list_of word ws names))
-  pub handlers : r.handlers ≡ end_of (step_of (list_of word ws r.type_refs))
-  pub tables : r.tables ≡ end_of (step_of (list_of handler_of ws r.handlers))
-  pub code : r.code ≡ end_of (step_of (list_of switch_of ws r.tables))
+  pub type_refs : r.type_refs ≡ unwrap_or (step_of (list_of word ws names)) 0
+  pub handlers : r.handlers ≡ unwrap_or (step_of (list_of word ws r.type_refs)) 0
+  pub tables : r.tables ≡ unwrap_or (step_of (list_of handler_of ws r.handlers)) 0
+  pub code : r.code ≡ unwrap_or (step_of (list_of switch_of ws r.tables)) 0
 
 -- ── functions by number ──
 

@@ -7,7 +7,7 @@ ghost use Rattle.reader.specs.Value.{Whole, value_of};
 ghost use Rattle.sheet.specs.Decode.{function_of};
 ghost use Rattle.region.specs.Region.{Off, Frame, word_at};
 ghost use Rattle.code.specs.Callee.{no_func, func_at};
-ghost use Rattle.rule_bodies.specs.Bodies.{Placed, end_of, Fronts, Backs, Countable};
+ghost use Rattle.rule_bodies.specs.Bodies.{Placed, Fronts, Backs, Countable};
 ghost use Rattle.open_sheet.specs.Ready.{sheet_words, module_of};
 
 use blocks::word;
@@ -16,7 +16,7 @@ use open_funcs::{skip_shapes, skip_switches};
 use open_parts::imports::skip_params;
 use open_sheet::{Opened, func_at};
 use open_types::skip_values;
-use reader::{Step, skip_records};
+use reader::skip_records;
 
 // The signature, and where the other nine stand: lists at their counts, the parameter list at its 0 or 1.
 #[derive(Clone, Copy)]
@@ -51,44 +51,35 @@ pub struct Back {
     pub code: usize,
 }
 
-// Where a step ends, 0 if it is broken.
-fn end_of(s: Step) -> usize
-    ensures { result ≡ end_of s }
-{
-    match s {
-        Step::Next(q) => q,
-        Step::Broken => 0,
-    }
-}
-
+#[tactic(auto, using(crate::proofs::BodySteps::fronts))]
 fn locate_front(sheet: &[u8], n: usize, at: usize) -> Front
     requires { Whole (function_of (first_words sheet.now n) at) }
     ensures { Fronts (first_words sheet.now n) at result }
 {
-    let params = end_of(skip_values(sheet, n, at + 1));
-    let shapes = end_of(skip_params(sheet, n, params));
-    let captures = end_of(skip_shapes(sheet, n, shapes));
-    let names = end_of(skip_values(sheet, n, captures));
+    let params = skip_values(sheet, n, at + 1).unwrap_or(0);
+    let shapes = skip_params(sheet, n, params).unwrap_or(0);
+    let captures = skip_shapes(sheet, n, shapes).unwrap_or(0);
+    let names = skip_values(sheet, n, captures).unwrap_or(0);
     Front {
-        params: params,
-        shapes: shapes,
-        captures: captures,
-        names: names,
+        params,
+        shapes,
+        captures,
+        names,
     }
 }
 
 fn locate_back(sheet: &[u8], n: usize, names: usize) -> Back
     ensures { Backs (first_words sheet.now n) names result }
 {
-    let type_refs = end_of(skip_records(sheet, n, names, 1));
-    let handlers = end_of(skip_records(sheet, n, type_refs, 1));
-    let tables = end_of(skip_records(sheet, n, handlers, 4));
-    let code = end_of(skip_switches(sheet, n, tables));
+    let type_refs = skip_records(sheet, n, names, 1).unwrap_or(0);
+    let handlers = skip_records(sheet, n, type_refs, 1).unwrap_or(0);
+    let tables = skip_records(sheet, n, handlers, 4).unwrap_or(0);
+    let code = skip_switches(sheet, n, tables).unwrap_or(0);
     Back {
-        type_refs: type_refs,
-        handlers: handlers,
-        tables: tables,
-        code: code,
+        type_refs,
+        handlers,
+        tables,
+        code,
     }
 }
 
@@ -113,6 +104,7 @@ pub fn locate_body(sheet: &[u8], n: usize, at: usize) -> Body
 }
 
 // How many captures a function has: no part after them is passed.
+#[tactic(auto, using(crate::proofs::CaptureSteps::captures_counted))]
 pub fn captures_count(sheet: &[u8], n: usize, at: usize) -> u32
     requires { Whole (function_of (first_words sheet.now n) at) }
     ensures { result ≡ length (value_of no_func (function_of (first_words sheet.now n) at)).captures }
@@ -129,10 +121,8 @@ pub fn index_captures(sheet: &[u8], work: &mut [u32], o: Opened)
 {
     let n = o.layout.words;
     let base = 4 * n;
-    let mut f = 0;
-    while f < o.counts.funcs {
+    for f in 0..o.counts.funcs {
         let at = func_at(work, o, FuncId(f));
         work[base + f as usize] = captures_count(sheet, n, at);
-        f += 1;
     }
 }

@@ -37,7 +37,7 @@ pub fn open_frame(sheet: &[u8], work: &[u32], o: Opened, f: FuncId) -> Frame
     let body = locate_body(sheet, o.layout.words, func_at(work, o, f));
     Frame {
         func: f,
-        body: body,
+        body,
         regs: word(sheet, body.regs),
         shapes: word(sheet, body.shapes),
         captures: word(sheet, body.captures),
@@ -57,11 +57,9 @@ pub fn index_shapes(sheet: &[u8], work: &mut [u32], o: Opened, c: Frame)
     ensures shaped { Shaped (sheet_words sheet.now o) work.new o c }
 {
     let mut p = c.body.shapes + 1;
-    let mut k = 0;
-    while k < c.shapes {
+    for k in 0..c.shapes {
         let n = word(sheet, p);
         work[7 * o.layout.words + k as usize] = n;
         p = p + 1 + 2 * n as usize;
-        k += 1;
     }
 }

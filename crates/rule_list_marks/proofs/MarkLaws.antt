@@ -11,8 +11,8 @@ use borrow.Author.Tests.{ltb-true, eqb-true, eqb-false}
 use Rattle.lists.specs.Lists.{all_of, any_of, contains, distinct}
 use Rattle.lists.specs.ListLaws.{both, and_first, and_second}
 use Rattle.rule_list_members.specs.declared.ListKind.{ListKind}
-use Rattle.rule_list_members.specs.declared.Name.{Name}
-use Rattle.rule_list_members.specs.declared.Name.TheVariants.{Nothing, Number}
+use Rattle.error.specs.declared.StrId.{StrId}
+use Rattle.std.specs.Prelude.{Option, None, Some}
 use Rattle.rule_list_members.specs.Members.{name_of, name_in, member_holds, members_hold, is_listed, is_in_order, late_after}
 use Rattle.rule_list_marks.specs.Marks.{named, names_of, names_distinct, put_mark, is_new, put_marks, are_new, names_in}
 
@@ -134,27 +134,27 @@ module _ (k : ListKind) where
   put_names v base w [] = refl
   put_names v base w (x ∷ xs) = go (name_of k x.0 x.1) (λ u. put_names v base u xs)
     where
-      go : (m : Name) → ((u : List ℕ) → put_marks k v base u xs ≡ put_all v base u (names_of k xs)) → put_marks k v base (put_mark v base w m) xs ≡ put_all v base w (named m ++ names_of k xs)
-      go Nothing ih = unfold put_mark named in ih w
-      go (Number s) ih = unfold put_mark named in ih (set w (base + s.0) v)
+      go : (m : Option StrId) → ((u : List ℕ) → put_marks k v base u xs ≡ put_all v base u (names_of k xs)) → put_marks k v base (put_mark v base w m) xs ≡ put_all v base w (named m ++ names_of k xs)
+      go None ih = unfold put_mark named in ih w
+      go (Some s) ih = unfold put_mark named in ih (set w (base + s.0) v)
 
   new_names : (v base : ℕ) (w : List ℕ) (xs : List (ℕ × ℕ)) → are_new k v base w xs ≡ new_all v base w (names_of k xs)
   unfolding are_new names_of
   new_names v base w [] = refl
   new_names v base w (x ∷ xs) = go (name_of k x.0 x.1) (λ u. new_names v base u xs)
     where
-      go : (m : Name) → ((u : List ℕ) → are_new k v base u xs ≡ new_all v base u (names_of k xs)) → (is_new v base w m && are_new k v base (put_mark v base w m) xs) ≡ new_all v base w (named m ++ names_of k xs)
-      go Nothing ih = unfold put_mark is_new named in ih w
-      go (Number s) ih = unfold put_mark is_new named in ap (λ y. not (eqb (get_or w (base + s.0) 0) v) && y) (ih (set w (base + s.0) v))
+      go : (m : Option StrId) → ((u : List ℕ) → are_new k v base u xs ≡ new_all v base u (names_of k xs)) → (is_new v base w m && are_new k v base (put_mark v base w m) xs) ≡ new_all v base w (named m ++ names_of k xs)
+      go None ih = unfold put_mark is_new named in ih w
+      go (Some s) ih = unfold put_mark is_new named in ap (λ y. not (eqb (get_or w (base + s.0) 0) v) && y) (ih (set w (base + s.0) v))
 
   pub in_names : (n : ℕ) (xs : List (ℕ × ℕ)) → names_in k n xs ≡ below n (names_of k xs)
   unfolding names_in names_of
   in_names n [] = refl
   in_names n (x ∷ xs) = go (name_of k x.0 x.1) (in_names n xs)
     where
-      go : (m : Name) → names_in k n xs ≡ below n (names_of k xs) → (name_in n m && names_in k n xs) ≡ below n (named m ++ names_of k xs)
-      go Nothing ih = unfold name_in named in ih
-      go (Number s) ih = unfold name_in named in ap (λ y. ltb s.0 n && y) ih
+      go : (m : Option StrId) → names_in k n xs ≡ below n (names_of k xs) → (name_in n m && names_in k n xs) ≡ below n (named m ++ names_of k xs)
+      go None ih = unfold name_in named in ih
+      go (Some s) ih = unfold name_in named in ap (λ y. ltb s.0 n && y) ih
 
   -- the names of members that hold are strings
   pub holds_names : (n : ℕ) (late : Bool) (xs : List (ℕ × ℕ)) → members_hold k n late xs ≡ true → names_in k n xs ≡ true

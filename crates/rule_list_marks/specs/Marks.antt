@@ -2,19 +2,16 @@
 use Rattle.std.specs.Prelude.{ℕ, ◌+◌, List, [], ◌∷◌, ◌++◌, Bool, true, false, not, ◌&&◌, eqb, get_or, set}
 use Rattle.lists.specs.Lists.{distinct}
 use Rattle.rule_list_members.specs.declared.ListKind.{ListKind}
-use Rattle.rule_list_members.specs.declared.Name.{Name}
-use Rattle.rule_list_members.specs.declared.Name.TheVariants.{Nothing, Number}
+use Rattle.error.specs.declared.StrId.{StrId}
+use Rattle.std.specs.Prelude.{Option, None, Some}
 use Rattle.rule_list_members.specs.Members.{name_of, name_in, members_hold}
-
-unfoldable pub both_hold : Bool → Bool → Bool
-both_hold a b = a && b
 
 -- ── names ──
 
 -- a name as a list
-unfoldable pub named : Name → List ℕ
-named Nothing = []
-named (Number s) = s.0 ∷ []
+unfoldable pub named : Option StrId → List ℕ
+named None = []
+named (Some s) = s.0 ∷ []
 
 -- the names that are read
 unfoldable pub names_of : ListKind → List (ℕ × ℕ) → List ℕ
@@ -30,14 +27,14 @@ valid_members k strings xs = members_hold k strings false xs && names_distinct k
 -- ── marks of names ──
 
 -- v is written to the name's mark, the first mark's place given
-unfoldable pub put_mark : ℕ → ℕ → List ℕ → Name → List ℕ
-put_mark v base w Nothing = w
-put_mark v base w (Number s) = set w (base + s.0) v
+unfoldable pub put_mark : ℕ → ℕ → List ℕ → Option StrId → List ℕ
+put_mark v base w None = w
+put_mark v base w (Some s) = set w (base + s.0) v
 
 -- the name's mark is not v
-unfoldable pub is_new : ℕ → ℕ → List ℕ → Name → Bool
-is_new v base w Nothing = true
-is_new v base w (Number s) = not (eqb (get_or w (base + s.0) 0) v)
+unfoldable pub is_new : ℕ → ℕ → List ℕ → Option StrId → Bool
+is_new v base w None = true
+is_new v base w (Some s) = not (eqb (get_or w (base + s.0) 0) v)
 
 -- v is written to the mark of each name, in order
 unfoldable pub put_marks : ListKind → ℕ → ℕ → List ℕ → List (ℕ × ℕ) → List ℕ

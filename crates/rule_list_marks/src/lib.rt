@@ -4,23 +4,24 @@
 ghost use Rattle.std.specs.Prelude.{◌≡◌, true, ◌+◌, ◌*◌, ◌≤◌, length};
 ghost use Rattle.blocks.specs.Blocks.{words};
 ghost use Rattle.open_sheet.specs.Ready.{Ready, sheet_words};
-ghost use Rattle.rule_list_marks.specs.Marks.{both_hold, names_in, names_distinct, valid_members, put_mark, is_new, put_marks, are_new};
+ghost use Rattle.rule_list_marks.specs.Marks.{names_in, names_distinct, valid_members, put_mark, is_new, put_marks, are_new};
 ghost use Rattle.rule_list_members.specs.Members.{pairs_at, name_in};
 
 use blocks::word;
+use error::StrId;
 use open_sheet::Opened;
-use rule_list_members::{ListKind, Name, members_hold, name_of};
+use rule_list_members::{ListKind, members_hold, name_of};
 
 // Writes v to a name's mark; the marks of `strings` names are from `base` on. Was the mark another?
-fn put_mark(work: &mut [u32], base: usize, strings: u32, name: Name, v: u32) -> bool
+fn put_mark(work: &mut [u32], base: usize, strings: u32, name: Option<StrId>, v: u32) -> bool
     requires strings_in_bounds { base + strings ≤ length work.old }
     requires name_value { name_in strings name ≡ true }
     ensures value { result ≡ is_new v base work.old name }
     ensures work_after { work.new ≡ put_mark v base work.old name }
 {
     match name {
-        Name::Nothing => true,
-        Name::Number(s) => {
+        None => true,
+        Some(s) => {
             let i = base + s.0 as usize;
             let old = work[i];
             work[i] = v;
@@ -46,25 +47,14 @@ fn put_marks(
     ensures work_after { work.new ≡ put_marks k v (3 * o.layout.words) work.old (pairs_at (words sheet.now) count from) }
 {
     let base = 3 * o.layout.words;
-    let mut left = count;
     let mut p = from;
     let mut new = true;
-    while 0 < left {
+    for _ in 0..count {
         let name = name_of(k, word(sheet, p), word(sheet, p + 1));
-        new = both(new, put_mark(work, base, o.counts.strings, name, v));
+        new &= put_mark(work, base, o.counts.strings, name, v);
         p += 2;
-        left -= 1;
     }
     new
-}
-
-fn both(a: bool, b: bool) -> bool
-    ensures { result ≡ both_hold a b }
-{
-    if a {
-        return b;
-    }
-    false
 }
 
 // No name stands twice. The marks are zero before and after.

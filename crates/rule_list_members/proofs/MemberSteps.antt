@@ -14,8 +14,7 @@ use Rattle.reader.specs.Reader.{got, word}
 use Rattle.reader.specs.ReaderLaws.{not_broken, word_at, word_end}
 use Rattle.rule_list_members.specs.declared.ListKind.{ListKind}
 use Rattle.rule_list_members.specs.declared.ListKind.TheVariants.{Params, Args}
-use Rattle.rule_list_members.specs.declared.Name.{Name}
-use Rattle.rule_list_members.specs.declared.Name.TheVariants.{Nothing, Number}
+use Rattle.std.specs.Prelude.{Option, None, Some}
 use Rattle.rule_list_members.specs.Members.{pairs_at, is_listed, is_late, is_early, is_in_order, late_after, name_of, name_in, member_holds, members_hold}
 
 -- ── by the kind of list ──
@@ -48,28 +47,28 @@ module _ (k : ListKind) (w : ℕ) where
 -- ── its name ──
 
 module _ (k : ListKind) (first second : ℕ) where
-  pub unnamed_param : k ≡ Params → second ≡ 0 → Nothing ≡ name_of k first second
+  pub unnamed_param : k ≡ Params → second ≡ 0 → None ≡ name_of k first second
   unfolding name_of
   unnamed_param e h = sym (ap (λ (x : ListKind). name_of x first second) e ∙ rw (eq-eqb second 0 h) refl)
 
-  pub named_param : k ≡ Params → (second ≡ 0 → ⊥) → Number (string_number (second - 1)) ≡ name_of k first second
+  pub named_param : k ≡ Params → (second ≡ 0 → ⊥) → Some (string_number (second - 1)) ≡ name_of k first second
   unfolding name_of
   named_param e h = sym (ap (λ (x : ListKind). name_of x first second) e ∙ rw (ne_eqb second 0 h) refl)
 
-  pub named_arg : k ≡ Args → first ≡ 1 → Number (string_number second) ≡ name_of k first second
+  pub named_arg : k ≡ Args → first ≡ 1 → Some (string_number second) ≡ name_of k first second
   unfolding name_of
   named_arg e h = sym (ap (λ (x : ListKind). name_of x first second) e ∙ rw (eq-eqb first 1 h) refl)
 
-  pub unnamed_arg : k ≡ Args → (first ≡ 1 → ⊥) → Nothing ≡ name_of k first second
+  pub unnamed_arg : k ≡ Args → (first ≡ 1 → ⊥) → None ≡ name_of k first second
   unfolding name_of
   unnamed_arg e h = sym (ap (λ (x : ListKind). name_of x first second) e ∙ rw (ne_eqb first 1 h) refl)
 
-module _ (strings : ℕ) (name : Name) where
-  pub nothing_in : name ≡ Nothing → true ≡ name_in strings name
+module _ (strings : ℕ) (name : Option StrId) where
+  pub nothing_in : name ≡ None → true ≡ name_in strings name
   unfolding name_in
   nothing_in e = sym (ap (name_in strings) e)
 
-  pub number_in : (s : StrId) → name ≡ Number s → ltb s.0 strings ≡ name_in strings name
+  pub number_in : (s : StrId) → name ≡ Some s → ltb s.0 strings ≡ name_in strings name
   unfolding name_in
   number_in s e = sym (ap (name_in strings) e)
 
@@ -101,7 +100,7 @@ module _ (k : ListKind) (late : Bool) (first : ℕ) where
     unfolding member_holds
     member_disordered e h f i = sym (rw (sym h ∙ e, sym i ∙ f) refl)
 
-    pub member_last : {r x y : Bool} {name : Name} → r ≡ true → r ≡ is_listed k first → x ≡ true → x ≡ is_in_order k late first → name ≡ name_of k first second → y ≡ name_in strings name →
+    pub member_last : {r x y : Bool} {name : Option StrId} → r ≡ true → r ≡ is_listed k first → x ≡ true → x ≡ is_in_order k late first → name ≡ name_of k first second → y ≡ name_in strings name →
         y ≡ member_holds k strings late first second
     unfolding member_holds
     member_last e h f i n j = j ∙ ap (name_in strings) n ∙ sym (rw (sym h ∙ e, sym i ∙ f) refl)
@@ -118,40 +117,41 @@ pairs_none ws left p h = let z : left ≡ 0 = omega arith in ap (λ n. pairs_at 
 
 -- ── all of them: what holds of the members ahead holds of all ──
 
-pub record Holding (k : ListKind) (strings n : ℕ) (ws : List ℕ) (count from left p : ℕ) (late : Bool) : Type 0 where
-  pub inside : p + 2 * left ≤ n
-  pub same : members_hold k strings false (pairs_at ws count from) ≡ members_hold k strings late (pairs_at ws left p)
+-- count - i members are ahead, from p on
+pub record Holding (k : ListKind) (strings n : ℕ) (ws : List ℕ) (count from i p : ℕ) (late : Bool) : Type 0 where
+  pub inside : p + 2 * (count - i) ≤ n
+  pub same : members_hold k strings false (pairs_at ws count from) ≡ members_hold k strings late (pairs_at ws (count - i) p)
 
 module _ (k : ListKind) (strings n : ℕ) (ws : List ℕ) (count from : ℕ) where
-  pub holding_start : from + 2 * count ≤ n → Holding k strings n ws count from count from false
-  holding_start h = record { inside = h; same = refl }
+  pub holding_start : from + 2 * count ≤ n → Holding k strings n ws count from 0 from false
+  holding_start h = let z : count - 0 ≡ count = omega arith in record { inside = omega (arith, h); same = rw z refl }
 
-  pub holding_inside : (left p : ℕ) (late : Bool) → Holding k strings n ws count from left p late → p + 2 * left ≤ n
-  holding_inside left p late x = x.inside
+  module _ (i p : ℕ) (late : Bool) (x : Holding k strings n ws count from i p late) where
+    pub holding_inside : p + 2 * (count - i) ≤ n
+    holding_inside = x.inside
 
-  module _ (left p : ℕ) (late : Bool) (x : Holding k strings n ws count from left p late) where
-    pub holding_end : left ≤ 0 → true ≡ members_hold k strings false (pairs_at ws count from)
+    pub holding_end : count ≤ i → true ≡ members_hold k strings false (pairs_at ws count from)
     unfolding members_hold
-    holding_end h = sym (x.same ∙ ap (members_hold k strings late) (pairs_none ws left p h))
+    holding_end h = sym (x.same ∙ ap (members_hold k strings late) (pairs_none ws (count - i) p (omega arith)))
 
-    module _ (h : 0 < left) {a b : ℕ} where
+    module _ (h : i < count) {a b : ℕ} where
       ahead : a ≡ get_or ws p 0 → b ≡ get_or ws (p + 1) 0 →
-          members_hold k strings false (pairs_at ws count from) ≡ (member_holds k strings late a b && members_hold k strings (late_after k late a) (pairs_at ws (left - 1) (p + 2)))
+          members_hold k strings false (pairs_at ws count from)
+          ≡ (member_holds k strings late a b && members_hold k strings (late_after k late a) (pairs_at ws (count - (i + 1)) (p + 2)))
       unfolding members_hold
-      ahead e f = x.same ∙ ap (members_hold k strings late) (pairs_first ws left p h ∙ ap₂' (sym e) (sym f))
-        where
-          ap₂' : {a b c d : ℕ} {l : List (ℕ × ℕ)} → a ≡ c → b ≡ d → (a, b) ∷ l ≡ (c, d) ∷ l
-          ap₂' e f = cc
+      ahead e f = let z : count - i - 1 ≡ count - (i + 1) = omega arith in
+          x.same ∙ ap (members_hold k strings late) (pairs_first ws (count - i) p (omega arith)) ∙ rw (z, e, f) refl
 
       pub holding_stop : {r : Bool} → a ≡ get_or ws p 0 → b ≡ get_or ws (p + 1) 0 → r ≡ false → r ≡ member_holds k strings late a b → false ≡ members_hold k strings false (pairs_at ws count from)
-      holding_stop e f g i = sym (ahead e f ∙ ap (λ y. y && members_hold k strings (late_after k late a) (pairs_at ws (left - 1) (p + 2))) (sym i ∙ g))
+      holding_stop e f g m = sym (ahead e f
+          ∙ ap (λ y. y && members_hold k strings (late_after k late a) (pairs_at ws (count - (i + 1)) (p + 2))) (sym m ∙ g))
 
       pub holding_next : {r l : Bool} → a ≡ get_or ws p 0 → b ≡ get_or ws (p + 1) 0 → r ≡ true → r ≡ member_holds k strings late a b → l ≡ late_after k late a →
-          Holding k strings n ws count from (left - 1) (p + 2) l
-      holding_next e f g i j = record {
+          Holding k strings n ws count from (i + 1) (p + 2) l
+      holding_next e f g m j = record {
         inside = omega (arith, x.inside);
-        same = ahead e f ∙ ap (λ y. y && members_hold k strings (late_after k late a) (pairs_at ws (left - 1) (p + 2))) (sym i ∙ g)
-            ∙ ap (λ y. members_hold k strings y (pairs_at ws (left - 1) (p + 2))) (sym j);
+        same = ahead e f ∙ ap (λ y. y && members_hold k strings (late_after k late a) (pairs_at ws (count - (i + 1)) (p + 2))) (sym m ∙ g)
+            ∙ ap (λ y. members_hold k strings y (pairs_at ws (count - (i + 1)) (p + 2))) (sym j);
       }
 
 pub ruleset holding = (holding_start, holding_end, holding_stop, holding_next)

@@ -1,10 +1,10 @@
 -- Parameters and arguments as code reads them: two words each.
 use Rattle.std.specs.Prelude.{ℕ, zero, suc, ◌+◌, ◌-◌, ◌/◌, ◌%◌, List, [], ◌∷◌, Bool, true, cond, not, ◌&&◌, ◌||◌, eqb, ltb, get_or}
+use Rattle.error.specs.declared.StrId.{StrId}
 use Rattle.error.specs.Answer.{string_number}
 use Rattle.rule_list_members.specs.declared.ListKind.{ListKind}
 use Rattle.rule_list_members.specs.declared.ListKind.TheVariants.{Params, Args}
-use Rattle.rule_list_members.specs.declared.Name.{Name}
-use Rattle.rule_list_members.specs.declared.Name.TheVariants.{Nothing, Number}
+use Rattle.std.specs.Prelude.{Option, None, Some}
 
 -- n members from p on
 unfoldable pub pairs_at : List ℕ → ℕ → ℕ → List (ℕ × ℕ)
@@ -37,14 +37,14 @@ unfoldable pub late_after : ListKind → Bool → ℕ → Bool
 late_after k late w = late || is_late k w
 
 -- the name that is read
-unfoldable pub name_of : ListKind → ℕ → ℕ → Name
-name_of Params first second = cond (eqb second 0) Nothing (Number (string_number (second - 1)))
-name_of Args first second = cond (eqb first 1) (Number (string_number second)) Nothing
+unfoldable pub name_of : ListKind → ℕ → ℕ → Option StrId
+name_of Params first second = cond (eqb second 0) None (Some (string_number (second - 1)))
+name_of Args first second = cond (eqb first 1) (Some (string_number second)) None
 
 -- the name is one of so many strings
-unfoldable pub name_in : ℕ → Name → Bool
-name_in strings Nothing = true
-name_in strings (Number s) = ltb s.0 strings
+unfoldable pub name_in : ℕ → Option StrId → Bool
+name_in strings None = true
+name_in strings (Some s) = ltb s.0 strings
 
 -- what is wanted of a member
 unfoldable pub member_holds : ListKind → ℕ → Bool → ℕ → ℕ → Bool

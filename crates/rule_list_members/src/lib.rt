@@ -15,13 +15,6 @@ pub enum ListKind {
     Args,
 }
 
-// The name that is read of a member.
-#[derive(Clone, Copy)]
-pub enum Name {
-    Nothing,
-    Number(StrId),
-}
-
 // Flags 1 by reference and 2 optional; kinds 0 positional, 1 named, 2 spread.
 fn is_listed(k: ListKind, first: u32) -> bool
     ensures { result ≡ is_listed k first }
@@ -53,31 +46,21 @@ fn is_early(k: ListKind, first: u32) -> bool
 }
 
 // A parameter's name is a number + 1, 0 for none; an argument's is read if it is named.
-pub fn name_of(k: ListKind, first: u32, second: u32) -> Name
+pub fn name_of(k: ListKind, first: u32, second: u32) -> Option<StrId>
     ensures { result ≡ name_of k first second }
 {
     match k {
-        ListKind::Params => {
-            if second == 0 {
-                return Name::Nothing;
-            }
-            Name::Number(StrId(second - 1))
-        }
-        ListKind::Args => {
-            if first == 1 {
-                return Name::Number(StrId(second));
-            }
-            Name::Nothing
-        }
+        ListKind::Params => second.checked_sub(1).map(StrId),
+        ListKind::Args => (first == 1).then_some(StrId(second)),
     }
 }
 
-fn name_in(name: Name, strings: u32) -> bool
+fn name_in(name: Option<StrId>, strings: u32) -> bool
     ensures { result ≡ name_in strings name }
 {
     match name {
-        Name::Nothing => true,
-        Name::Number(s) => s.0 < strings,
+        None => true,
+        Some(s) => s.0 < strings,
     }
 }
 
@@ -85,31 +68,21 @@ fn name_in(name: Name, strings: u32) -> bool
 fn is_in_order(k: ListKind, late: bool, first: u32) -> bool
     ensures { result ≡ is_in_order k late first }
 {
-    if late {
-        return !is_early(k, first);
-    }
-    true
+    !(late && is_early(k, first))
 }
 
 fn member_holds(k: ListKind, strings: u32, late: bool, first: u32, second: u32) -> bool
     ensures { result ≡ member_holds k strings late first second }
 {
-    if !is_listed(k, first) {
-        return false;
-    }
-    if !is_in_order(k, late, first) {
-        return false;
-    }
-    name_in(name_of(k, first, second), strings)
+    is_listed(k, first)
+        && is_in_order(k, late, first)
+        && name_in(name_of(k, first, second), strings)
 }
 
 fn late_after(k: ListKind, late: bool, first: u32) -> bool
     ensures { result ≡ late_after k late first }
 {
-    if late {
-        return true;
-    }
-    is_late(k, first)
+    late || is_late(k, first)
 }
 
 // Each of `count` members from `from` on; n is a bound of their words.
@@ -124,17 +97,15 @@ pub fn members_hold(
     requires { from + 2 * count ≤ n }
     ensures { result ≡ members_hold k strings false (pairs_at (words sheet.now) count from) }
 {
-    let mut left = count;
     let mut p = from;
     let mut late = false;
-    while 0 < left {
+    for _ in 0..count {
         let first = word(sheet, p);
         if !member_holds(k, strings, late, first, word(sheet, p + 1)) {
             return false;
         }
         late = late_after(k, late, first);
         p += 2;
-        left -= 1;
     }
     true
 }

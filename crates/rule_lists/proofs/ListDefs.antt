@@ -15,7 +15,7 @@ use Rattle.funcs.specs.Shapes.{good_kind, positional, is_named, named_last, name
 use Rattle.error.specs.Answer.{string_number}
 use Rattle.rule_list_members.specs.declared.ListKind.{ListKind}
 use Rattle.rule_list_members.specs.declared.ListKind.TheVariants.{Params, Args}
-use Rattle.rule_list_members.specs.declared.Name.TheVariants.{Nothing, Number}
+use Rattle.std.specs.Prelude.{None, Some}
 use Rattle.rule_list_members.specs.Members.{pairs_at, is_listed, is_late, is_early, is_in_order, late_after, name_of, name_in, member_holds, members_hold}
 use Rattle.rule_list_marks.specs.Marks.{named, names_of, names_in, names_distinct, valid_members}
 use Rattle.rule_lists.specs.References.{value_from, reference_fits, references_fit}
@@ -124,7 +124,7 @@ given_names_lem (x ∷ xs) = go x.1 (given_names_lem xs)
   where
     go : (s : ℕ) → given_names (params xs) ≡ List.map suc (names_of Params xs) →
         cond (ltb 0 s) (s ∷ keep (ltb 0) (List.map (λ p. p.name+) (params xs))) (keep (ltb 0) (List.map (λ p. p.name+) (params xs)))
-        ≡ List.map suc (named (cond (eqb s 0) Nothing (Number (string_number (s - 1)))) ++ names_of Params xs)
+        ≡ List.map suc (named (cond (eqb s 0) None (Some (string_number (s - 1)))) ++ names_of Params xs)
     go zero ih = unfold given_names named in ih
     go (suc t) ih = unfold given_names named in
         let z : suc t ≡ suc (suc t - 1) = omega arith in
@@ -140,7 +140,7 @@ read_names [] = refl
 read_names (x ∷ xs) = go (eqb x.0 1) (read_names xs)
   where
     go : (t : Bool) → names_of Args xs ≡ names_read (args xs) →
-        named (cond t (Number (string_number x.1)) Nothing) ++ names_of Args xs
+        named (cond t (Some (string_number x.1)) None) ++ names_of Args xs
         ≡ List.map (λ (a : Arg). a.name) (cond t (to_arg x ∷ keep is_named (args xs)) (keep is_named (args xs)))
     go true ih = unfold names_read named in ap (λ l. x.1 ∷ l) ih
     go false ih = unfold names_read named in ih
@@ -150,7 +150,7 @@ unfolding names_in name_of
 in_params n [] = refl
 in_params n (x ∷ xs) = ap₂ ◌&&◌ (go x.1) (in_params n xs)
   where
-    go : (s : ℕ) → name_in n (cond (eqb s 0) Nothing (Number (string_number (s - 1)))) ≡ leb s n
+    go : (s : ℕ) → name_in n (cond (eqb s 0) None (Some (string_number (s - 1)))) ≡ leb s n
     go zero = unfold name_in in sym (le-leb 0 n (omega arith))
     go (suc t) = unfold name_in in
         let z : suc t - 1 ≡ t = omega arith in

@@ -3,7 +3,7 @@ use Prim.Native.Nat.{ℕ, zero, suc, ◌+◌, ◌-◌, ◌*◌, ◌≤◌, ◌<�
 use mathlib.Core.Path.{◌≡◌, refl, sym, ap, ap₂, subst, ◌∙◌}
 use mathlib.Core.List.{List, [], ◌∷◌, map}
 use mathlib.Core.Bool.{true, cond}
-use mathlib.Core.Option.{none, some}
+use Rattle.std.specs.Prelude.{None, Some}
 use native.Mathlib.Omega.{arith}
 use native.Mathlib.Decide.{dec_lt}
 use lib.ListN.{length, get_or}
@@ -174,36 +174,36 @@ module _ (b : List ℕ) (m at : ℕ) (h : Whole (param_list (first_words b m) at
       go (yes l) = l
       go (no l) = absurd (not_whole (params_past (omega arith)) h)
 
-  opened : {w : ℕ} → w ≡ get_or (words b) at 0 → param_list (first_words b m) at ≡ get_or (pure none ∷ some_params ∷ []) w fail (first_words b m) (at + 1)
+  opened : {w : ℕ} → w ≡ get_or (words b) at 0 → param_list (first_words b m) at ≡ get_or (pure None ∷ some_params ∷ []) w fail (first_words b m) (at + 1)
   unfolding param_list
   opened e = rw (word_read b m at params_in e)
 
-  pub no_params : {w : ℕ} → w ≡ get_or (words b) at 0 → w ≡ 0 → value_of none (param_list (first_words b m) at) ≡ none
+  pub no_params : {w : ℕ} → w ≡ get_or (words b) at 0 → w ≡ 0 → value_of None (param_list (first_words b m) at) ≡ None
   unfolding value_of
-  no_params e z = ap (value_of none) (opened e ∙ ap (λ (k : ℕ). get_or (pure none ∷ some_params ∷ []) k fail (first_words b m) (at + 1)) z)
+  no_params e z = ap (value_of None) (opened e ∙ ap (λ (k : ℕ). get_or (pure None ∷ some_params ∷ []) k fail (first_words b m) (at + 1)) z)
 
   module _ {w : ℕ} (e : w ≡ get_or (words b) at 0) (z : w ≡ 0 → ⊥) where
     is_some : param_list (first_words b m) at ≡ some_params (first_words b m) (at + 1)
     is_some = go w z (opened e)
       where
-        go : (k : ℕ) → (k ≡ 0 → ⊥) → param_list (first_words b m) at ≡ get_or (pure none ∷ some_params ∷ []) k fail (first_words b m) (at + 1) → param_list (first_words b m) at ≡ some_params (first_words b m) (at + 1)
+        go : (k : ℕ) → (k ≡ 0 → ⊥) → param_list (first_words b m) at ≡ get_or (pure None ∷ some_params ∷ []) k fail (first_words b m) (at + 1) → param_list (first_words b m) at ≡ some_params (first_words b m) (at + 1)
         go zero z g = absurd (z refl)
         go (suc zero) z g = g
         go (suc (suc k)) z g = absurd (not_whole g h)
 
-    made : (l : Got (List Param)) → Whole (and_then l (λ ps q. got (some ps) q)) → Whole l × (value_of none (and_then l (λ ps q. got (some ps) q)) ≡ some (value_of [] l))
+    made : (l : Got (List Param)) → Whole (and_then l (λ ps q. got (Some ps) q)) → Whole l × (value_of None (and_then l (λ ps q. got (Some ps) q)) ≡ Some (value_of [] l))
     unfolding Whole value_of
     made broken h = absurd h
     made (got ps q) h = (tt, refl)
 
-    both_made : Whole (list_of param_of (first_words b m) (at + 1)) × (value_of none (param_list (first_words b m) at) ≡ some (value_of [] (list_of param_of (first_words b m) (at + 1))))
+    both_made : Whole (list_of param_of (first_words b m) (at + 1)) × (value_of None (param_list (first_words b m) at) ≡ Some (value_of [] (list_of param_of (first_words b m) (at + 1))))
     unfolding some_params
     both_made =
         let r = made (list_of param_of (first_words b m) (at + 1)) (subst Whole is_some h) in
-        (r.0, ap (value_of none) is_some ∙ r.1)
+        (r.0, ap (value_of None) is_some ∙ r.1)
 
     pub params_whole : Whole (list_of param_of (first_words b m) (at + 1))
     params_whole = both_made.0
 
-    pub params_some : value_of none (param_list (first_words b m) at) ≡ some (value_of [] (list_of param_of (first_words b m) (at + 1)))
+    pub params_some : value_of None (param_list (first_words b m) at) ≡ Some (value_of [] (list_of param_of (first_words b m) (at + 1)))
     params_some = both_made.1

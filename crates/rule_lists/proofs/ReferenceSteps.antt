@@ -126,41 +126,48 @@ module _ (m : Module) (f v : ℕ) where
 
 -- ── all ──
 
-pub record Fitting (m : Module) (ws : List ℕ) (n count from values left p q : ℕ) : Type 0 where
-  pub inside : p + 2 * left ≤ n
-  pub inside_values : q + left ≤ n
-  pub same : references_fit m ws count from values ≡ references_fit m ws left p q
+-- count - i are ahead, from p and q on
+pub record Fitting (m : Module) (ws : List ℕ) (n count from values i p q : ℕ) : Type 0 where
+  pub inside : p + 2 * (count - i) ≤ n
+  pub inside_values : q + (count - i) ≤ n
+  pub same : references_fit m ws count from values ≡ references_fit m ws (count - i) p q
 
 module _ (m : Module) (ws : List ℕ) (n count from values : ℕ) where
-  pub fitting_start : from + 2 * count ≤ n → values + count ≤ n → Fitting m ws n count from values count from values
-  fitting_start h k = record { inside = h; inside_values = k; same = refl }
+  pub fitting_start : from + 2 * count ≤ n → values + count ≤ n → Fitting m ws n count from values 0 from values
+  fitting_start h k = let z : count - 0 ≡ count = omega arith in record {
+    inside = omega (arith, h);
+    inside_values = omega (arith, k);
+    same = rw z refl;
+  }
 
-  module _ (left p q : ℕ) (x : Fitting m ws n count from values left p q) where
-    pub fitting_inside : p + 2 * left ≤ n
+  module _ (i p q : ℕ) (x : Fitting m ws n count from values i p q) where
+    pub fitting_inside : p + 2 * (count - i) ≤ n
     fitting_inside = x.inside
 
-    pub fitting_values : q + left ≤ n
+    pub fitting_values : q + (count - i) ≤ n
     fitting_values = x.inside_values
 
-    pub fitting_end : left ≤ 0 → true ≡ references_fit m ws count from values
+    pub fitting_end : count ≤ i → true ≡ references_fit m ws count from values
     unfolding references_fit
-    fitting_end h = let z : left ≡ 0 = omega arith in sym (x.same ∙ ap (λ k. references_fit m ws k p q) z)
+    fitting_end h = let z : count - i ≡ 0 = omega arith in sym (x.same ∙ ap (λ k. references_fit m ws k p q) z)
 
-    module _ (h : 0 < left) {a b : ℕ} (e : a ≡ get_or ws p 0) (f : b ≡ get_or ws q 0) {r : Bool} where
-      ahead : r ≡ reference_fits m a b → references_fit m ws count from values ≡ (r && references_fit m ws (left - 1) (p + 2) (q + 1))
+    module _ (h : i < count) {a b : ℕ} (e : a ≡ get_or ws p 0) (f : b ≡ get_or ws q 0) {r : Bool} where
+      ahead : r ≡ reference_fits m a b →
+          references_fit m ws count from values ≡ (r && references_fit m ws (count - (i + 1)) (p + 2) (q + 1))
       unfolding references_fit
       ahead g =
-          let z : left ≡ suc (left - 1) = omega arith in
-          x.same ∙ ap (λ k. references_fit m ws k p q) z ∙ ap (λ t. t && references_fit m ws (left - 1) (p + 2) (q + 1)) (sym (g ∙ ap₂ (reference_fits m) e f))
+          let z : count - i ≡ suc (count - (i + 1)) = omega arith in
+          x.same ∙ ap (λ k. references_fit m ws k p q) z
+          ∙ ap (λ t. t && references_fit m ws (count - (i + 1)) (p + 2) (q + 1)) (sym (g ∙ ap₂ (reference_fits m) e f))
 
       pub fitting_stop : r ≡ false → r ≡ reference_fits m a b → false ≡ references_fit m ws count from values
-      fitting_stop i g = sym (ahead g ∙ ap (λ t. t && references_fit m ws (left - 1) (p + 2) (q + 1)) i)
+      fitting_stop k g = sym (ahead g ∙ ap (λ t. t && references_fit m ws (count - (i + 1)) (p + 2) (q + 1)) k)
 
-      pub fitting_next : r ≡ true → r ≡ reference_fits m a b → Fitting m ws n count from values (left - 1) (p + 2) (q + 1)
-      fitting_next i g = record {
+      pub fitting_next : r ≡ true → r ≡ reference_fits m a b → Fitting m ws n count from values (i + 1) (p + 2) (q + 1)
+      fitting_next k g = record {
         inside = omega (arith, x.inside);
         inside_values = omega (arith, x.inside_values);
-        same = ahead g ∙ ap (λ t. t && references_fit m ws (left - 1) (p + 2) (q + 1)) i;
+        same = ahead g ∙ ap (λ t. t && references_fit m ws (count - (i + 1)) (p + 2) (q + 1)) k;
       }
 
 pub ruleset fitting = (fitting_start, fitting_end, fitting_stop, fitting_next)

@@ -2,7 +2,6 @@
 #![tactic(auto)]
 
 ghost use Rattle.std.specs.Prelude.{◌≡◌, []};
-ghost use Rattle.std.proofs.Math.Option.{none};
 ghost use Rattle.error.specs.Verdict.{verdict_of};
 ghost use Rattle.reader.specs.Reader.{list_of};
 ghost use Rattle.reader.specs.Value.{Whole, value_of};
@@ -16,7 +15,7 @@ mod references;
 
 use crate::references::references_fit;
 use blocks::word;
-use error::{LoadErrorKind, Verdict};
+use error::LoadErrorKind;
 use open_sheet::Opened;
 use rule_list_marks::are_valid;
 use rule_list_members::ListKind;
@@ -28,60 +27,63 @@ pub fn check_params(
     o: Opened,
     at: usize,
     params_at: usize,
-) -> Verdict
+) -> Result<(), LoadErrorKind>
     requires ready { Ready (sheet_words sheet.now o) work.old o }
     requires whole { Whole (param_list (sheet_words sheet.now o) at) }
     requires whole_2 { Whole (list_of value_type (sheet_words sheet.now o) params_at) }
-    ensures value { result ≡ verdict_of (param_list_faults (module_of sheet.now o) (value_of none (param_list (sheet_words sheet.now o) at)) (value_of [] (list_of value_type (sheet_words sheet.now o) params_at))) }
+    ensures value { result ≡ verdict_of (param_list_faults (module_of sheet.now o) (value_of None (param_list (sheet_words sheet.now o) at)) (value_of [] (list_of value_type (sheet_words sheet.now o) params_at))) }
     ensures work_unchanged { work.new ≡ work.old }
 {
     if word(sheet, at) == 0 {
-        return Verdict::Holds;
+        return Ok(());
     }
     let count = word(sheet, at + 1);
     if count != word(sheet, params_at) {
-        return Verdict::Broken(LoadErrorKind::BadParamList);
+        return Err(LoadErrorKind::BadParamList);
     }
     if !references_fit(sheet, work, o, at + 2, params_at + 1, count) {
-        return Verdict::Broken(LoadErrorKind::BadParamList);
+        return Err(LoadErrorKind::BadParamList);
     }
     if are_valid(sheet, work, o, ListKind::Params, at + 2, count) {
-        return Verdict::Holds;
+        return Ok(());
     }
-    Verdict::Broken(LoadErrorKind::BadParamList)
+    Err(LoadErrorKind::BadParamList)
 }
 
 // The call shape at `at`.
-pub fn check_shape(sheet: &[u8], work: &mut [u32], o: Opened, at: usize) -> Verdict
+pub fn check_shape(
+    sheet: &[u8],
+    work: &mut [u32],
+    o: Opened,
+    at: usize,
+) -> Result<(), LoadErrorKind>
     requires ready { Ready (sheet_words sheet.now o) work.old o }
     requires whole { Whole (list_of arg_of (sheet_words sheet.now o) at) }
     ensures value { result ≡ verdict_of (shape_faults (module_of sheet.now o) (value_of [] (list_of arg_of (sheet_words sheet.now o) at))) }
     ensures work_unchanged { work.new ≡ work.old }
 {
     if are_valid(sheet, work, o, ListKind::Args, at + 1, word(sheet, at)) {
-        return Verdict::Holds;
+        return Ok(());
     }
-    Verdict::Broken(LoadErrorKind::BadCallShape)
+    Err(LoadErrorKind::BadCallShape)
 }
 
 // Call shapes in order.
-pub fn check_shapes(sheet: &[u8], work: &mut [u32], o: Opened, at: usize) -> Verdict
+pub fn check_shapes(
+    sheet: &[u8],
+    work: &mut [u32],
+    o: Opened,
+    at: usize,
+) -> Result<(), LoadErrorKind>
     requires ready { Ready (sheet_words sheet.now o) work.old o }
     requires whole { Whole (list_of (list_of arg_of) (sheet_words sheet.now o) at) }
     ensures value { result ≡ verdict_of (list_faults (shape_faults (module_of sheet.now o)) (list_of (list_of arg_of) (sheet_words sheet.now o) at)) }
     ensures work_unchanged { work.new ≡ work.old }
 {
-    let mut left = word(sheet, at);
     let mut p = at + 1;
-    while 0 < left {
-        match check_shape(sheet, work, o, p) {
-            Verdict::Holds => {}
-            Verdict::Broken(k) => {
-                return Verdict::Broken(k);
-            }
-        }
+    for _ in 0..word(sheet, at) {
+        check_shape(sheet, work, o, p)?;
         p += 1 + 2 * (word(sheet, p) as usize);
-        left -= 1;
     }
-    Verdict::Holds
+    Ok(())
 }

@@ -32,10 +32,7 @@ fn reference_fits(sheet: &[u8], work: &[u32], o: Opened, flags: u32, w: u32) -> 
     requires { Ready (sheet_words sheet.now o) work.now o }
     ensures { result ≡ reference_fits (module_of sheet.now o) flags w }
 {
-    if flags % 2 != 1 {
-        return true;
-    }
-    is_taken(sheet, work, o, w)
+    flags % 2 != 1 || is_taken(sheet, work, o, w)
 }
 
 // `count` parameters from `from` on, as many value types from `values` on.
@@ -52,16 +49,14 @@ pub fn references_fit(
     requires count_bound_2 { values + count ≤ o.layout.words }
     ensures { result ≡ references_fit (module_of sheet.now o) (words sheet.now) count from values }
 {
-    let mut left = count;
     let mut p = from;
     let mut q = values;
-    while 0 < left {
+    for _ in 0..count {
         if !reference_fits(sheet, work, o, word(sheet, p), word(sheet, q)) {
             return false;
         }
         p += 2;
         q += 1;
-        left -= 1;
     }
     true
 }

@@ -78,36 +78,43 @@ module _ (b : List ℕ) (n at : ℕ) (h : Whole (list_of value_type (first_words
 
 -- ── all ──
 
--- left are ahead, from q on, and all before are dyn
-pub record Dyns (ws : List ℕ) (at left q : ℕ) : Type 0 where
-  pub whole : Whole (many left value_type ws q)
-  pub same : all_of is_dyn (value_of [] (list_of value_type ws at)) ≡ all_of is_dyn (value_of [] (many left value_type ws q))
+-- count - i are ahead, from q on, and all before are dyn
+pub record Dyns (ws : List ℕ) (at count i q : ℕ) : Type 0 where
+  pub whole : Whole (many (count - i) value_type ws q)
+  pub same : all_of is_dyn (value_of [] (list_of value_type ws at)) ≡ all_of is_dyn (value_of [] (many (count - i) value_type ws q))
 
 module _ (b : List ℕ) (n at : ℕ) where
-  pub dyns_start : {c : ℕ} → Whole (list_of value_type (first_words b n) at) → c ≡ get_or (words b) at 0 → Dyns (first_words b n) at c (at + 1)
-  dyns_start h e = record { whole = list_whole value_type b n at h e; same = ap (all_of is_dyn) (list_value value_type b n at [] h e) }
+  pub dyns_start : {c : ℕ} → Whole (list_of value_type (first_words b n) at) → c ≡ get_or (words b) at 0 →
+      Dyns (first_words b n) at c 0 (at + 1)
+  dyns_start {c} h e =
+      let z : c - 0 ≡ c = omega arith in
+      record { whole = rw z (list_whole value_type b n at h e); same = rw z (ap (all_of is_dyn) (list_value value_type b n at [] h e)) }
 
-  module _ (left q : ℕ) (x : Dyns (first_words b n) at left q) where
-    pub dyns_end : left ≤ 0 → true ≡ all_of is_dyn (value_of [] (list_of value_type (first_words b n) at))
+  module _ (count i q : ℕ) (x : Dyns (first_words b n) at count i q) where
+    pub dyns_end : count ≤ i → true ≡ all_of is_dyn (value_of [] (list_of value_type (first_words b n) at))
     unfolding many value_of
     dyns_end h =
-        let z : left ≡ 0 = omega arith in
+        let z : count - i ≡ 0 = omega arith in
         sym (x.same ∙ ap (λ k. all_of is_dyn (value_of [] (many k value_type (first_words b n) q))) z)
 
-    module _ (h : 0 < left) where
+    module _ (h : i < count) where
       ahead : {C : Type 0} → ((v : ValueType) (q₂ : ℕ) (vs : List ValueType) (e : ℕ) → value_type (first_words b n) q ≡ got v q₂
-          → many (left - 1) value_type (first_words b n) q₂ ≡ got vs e → many left value_type (first_words b n) q ≡ got (v ∷ vs) e → C) → C
-      ahead k = many_first value_type (first_words b n) left q x.whole h k
+          → many (count - (i + 1)) value_type (first_words b n) q₂ ≡ got vs e →
+          many (count - i) value_type (first_words b n) q ≡ got (v ∷ vs) e → C) → C
+      ahead k = many_first value_type (first_words b n) (count - i) q x.whole (omega arith) λ v q₂ vs e e₁ e₂ e₃.
+          let z : count - (i + 1) ≡ count - i - 1 = omega arith in
+          k v q₂ vs e e₁ (ap (λ j. many j value_type (first_words b n) q₂) z ∙ e₂) e₃
 
       pub dyns_within : q < n
       dyns_within = ahead λ v q₂ vs e e₁ e₂ e₃. value_within b n q e₁
 
       module _ {w : ℕ} (k : w ≡ get_or (words b) q 0) where
-        pub dyns_next : w ≡ 12 → Dyns (first_words b n) at (left - 1) (q + 1)
+        pub dyns_next : w ≡ 12 → Dyns (first_words b n) at count (i + 1) (q + 1)
         dyns_next z = ahead λ v q₂ vs e e₁ e₂ e₃.
             let y : q₂ ≡ q + 1 = value_end b n q e₁ in
             let d : is_dyn v ≡ true = sym (value_dyn b n q e₁) ∙ ap (λ i. eqb i 12) (sym k) ∙ eq-eqb w 12 z in
-            let m : many (left - 1) value_type (first_words b n) (q + 1) ≡ got vs e = ap (many (left - 1) value_type (first_words b n)) (sym y) ∙ e₂ in
+            let m : many (count - (i + 1)) value_type (first_words b n) (q + 1)
+            ≡ got vs e = ap (many (count - (i + 1)) value_type (first_words b n)) (sym y) ∙ e₂ in
             record {
               whole = got_whole m;
               same = x.same ∙ ap (all_of is_dyn) (value_got [] e₃) ∙ ap (λ i. i && all_of is_dyn vs) d

@@ -13,13 +13,15 @@ use Rattle.lists.specs.ListLaws.{length_concat_map}
 use Rattle.blocks.specs.Blocks.{words}
 use Rattle.blocks.specs.Frame.{first_words}
 use Rattle.blocks.proofs.FirstWords.{first_words_at}
+use Rattle.error.specs.declared.What.{What}
 use Rattle.error.specs.declared.What.TheVariants.{Types}
+use Rattle.error.specs.declared.LoadErrorKind.{LoadErrorKind}
 use Rattle.error.specs.declared.LoadErrorKind.TheVariants.{OutOfRange, BadSignature}
-use Rattle.error.specs.declared.Verdict.{Verdict}
-use Rattle.error.specs.declared.Verdict.TheVariants.{Holds, Broken}
+use Rattle.error.specs.Verdict.{Verdict}
+use Rattle.std.specs.Prelude.{Err, Ok}
 use Rattle.error.specs.Answer.{unless, in_range}
 use Rattle.error.specs.Verdict.{verdict_of}
-use Rattle.error.specs.VerdictLaws.{range_holds, range_broken, verdict_then, verdict_stop}
+use Rattle.error.specs.VerdictLaws.{range_broken, verdict_then, verdict_stop}
 use Rattle.reader.specs.Reader.{broken, got, list_of, encode_list}
 use Rattle.reader.specs.ReaderLaws.{then_inv}
 use Rattle.reader.proofs.ReadLaws.{read_at}
@@ -35,7 +37,7 @@ use Rattle.imports.specs.Params.{is_signature, signature_faults, sig_params, sig
 use Rattle.open_layout.specs.Opened.{module_in}
 use Rattle.open_sheet.specs.declared.Opened.{Opened}
 use Rattle.open_sheet.specs.Ready.{Ready, pos_at}
-use Rattle.open_sheet.specs.ReadyLaws.{count_types, types_in, type_room, type_whole, type_value}
+use Rattle.open_sheet.specs.ReadyLaws.{count_types, type_room, type_whole, type_value}
 use Rattle.rule_signatures.specs.Signature.{HasSig}
 use Rattle.rule_signatures.specs.SignatureLaws.{no_sig_lem, no_type}
 
@@ -175,31 +177,50 @@ module _ (ws w : List ℕ) (o : Opened) (x : Ready ws w o) (t : ℕ) (h : t < o.
     unfolding sig_results
     type_results k = k ∙ ap (λ d. length (sig_of d).results) (type_value ws w o x t h e)
 
-    module _ {r : Bool} (k : r ≡ is_signature (value_of coroutine (type_def ws p))) where
+-- what is in range is below the count
+pub range_inside : (what : What) (n i : ℕ) {u : Verdict} → u ≡ Ok tt → u ≡ verdict_of (in_range what n i) → i < n
+range_inside what n i {u} e k = go (dec_lt i n)
+  where
+    go : Dec (i < n) → i < n
+    go (yes l) = l
+    go (no l) =
+        let h : Err (OutOfRange what i) ≡ verdict_of (in_range what n i) = range_broken what n i (omega arith) in
+        let z : ◌≡◌ {A = ℕ} 0 1 = cc in absurd (omega arith)
+
+-- a type that is there is judged by what it is
+module _ (ws w : List ℕ) (o : Opened) (x : Ready ws w o) (t : ℕ) {u : Verdict} (l : u ≡ verdict_of (in_range Types o.counts.types t)) where
+  ranged : u ≡ verdict_of (in_range Types (length (module_in ws).types) t)
+  ranged = l ∙ ap (λ c. verdict_of (in_range Types c t)) (count_types ws o x.opens)
+
+  pub type_missing : {k : LoadErrorKind} → u ≡ Err k → Err k ≡ verdict_of (signature_faults (module_in ws) t)
+  unfolding signature_faults
+  type_missing {k} e =
+      verdict_stop (in_range Types (length (module_in ws).types) t)
+      (unless (is_signature (type_at (module_in ws).types t)) BadSignature) k e ranged
+
+  module _ (e : u ≡ Ok tt) where
+    pub type_there : t < o.counts.types
+    type_there = range_inside Types o.counts.types t e l
+
+    module _ {p : ℕ} (f : p ≡ pos_at w o.index.types t) {r : Bool} (k : r ≡ is_signature (value_of coroutine (type_def ws p))) where
       told : {v : Verdict} → v ≡ verdict_of (unless r BadSignature) → v ≡ verdict_of (signature_faults (module_in ws) t)
       unfolding signature_faults
       told {v} z =
-          verdict_then (in_range Types (length (module_in ws).types) t) (unless (is_signature (type_at (module_in ws).types t)) BadSignature)
-          refl (range_holds Types (length (module_in ws).types) t (types_in ws w o x t h))
-          (z ∙ ap (λ i. verdict_of (unless i BadSignature)) (k ∙ ap is_signature (type_value ws w o x t h e)))
+          verdict_then (in_range Types (length (module_in ws).types) t)
+          (unless (is_signature (type_at (module_in ws).types t)) BadSignature) e ranged
+          (z ∙ ap (λ i. verdict_of (unless i BadSignature)) (k ∙ ap is_signature (type_value ws w o x t type_there f)))
 
-      pub signature_holds : r ≡ true → Holds ≡ verdict_of (signature_faults (module_in ws) t)
+      pub signature_holds : r ≡ true → Ok tt ≡ verdict_of (signature_faults (module_in ws) t)
       unfolding verdict_of
       signature_holds z = told (ap (λ i. verdict_of (unless i BadSignature)) (sym z))
 
-      pub signature_broken : r ≡ false → Broken BadSignature ≡ verdict_of (signature_faults (module_in ws) t)
+      pub signature_broken : r ≡ false → Err BadSignature ≡ verdict_of (signature_faults (module_in ws) t)
       unfolding verdict_of
       signature_broken z = told (ap (λ i. verdict_of (unless i BadSignature)) (sym z))
 
 module _ (ws w : List ℕ) (o : Opened) (x : Ready ws w o) (t : ℕ) (h : o.counts.types ≤ t) where
   missing : length (module_in ws).types ≤ t
   missing = omega (arith, count_types ws o x.opens)
-
-  pub type_missing : Broken (OutOfRange Types t) ≡ verdict_of (signature_faults (module_in ws) t)
-  unfolding signature_faults
-  type_missing =
-      verdict_stop (in_range Types (length (module_in ws).types) t) (unless (is_signature (type_at (module_in ws).types t)) BadSignature)
-      (OutOfRange Types t) refl (range_broken Types (length (module_in ws).types) t missing)
 
   pub missing_params : 0 ≡ length (sig_params (module_in ws) t)
   unfolding sig_params no_sig

@@ -10,8 +10,8 @@ use Rattle.std.proofs.Math.ListN.{get_or-eq_default}
 use borrow.Author.Tests.{eqb-true, ltb-true}
 use Rattle.error.specs.declared.What.TheVariants.{Types}
 use Rattle.error.specs.declared.LoadErrorKind.TheVariants.{BadSignature, OutOfRange}
-use Rattle.error.specs.declared.Verdict.{Verdict}
-use Rattle.error.specs.declared.Verdict.TheVariants.{Holds}
+use Rattle.error.specs.Verdict.{Verdict}
+use Rattle.std.specs.Prelude.{Ok}
 use Rattle.error.specs.Answer.{unless}
 use Rattle.error.specs.Verdict.{verdict_of}
 use Rattle.error.specs.VerdictLaws.{none_broken}
@@ -37,7 +37,7 @@ no_type ds t h = ap sig_of (get_or-eq_default ds coroutine h)
 
 module _ (m : Module) (t : ℕ) where
   -- what passed the test
-  pub checked_sig : {r : Verdict} → r ≡ Holds → r ≡ verdict_of (signature_faults m t) → HasSig m t
+  pub checked_sig : {r : Verdict} → r ≡ Ok tt → r ≡ verdict_of (signature_faults m t) → HasSig m t
   unfolding signature_faults is_signature
   checked_sig e k =
       let d = type_at m.types t in

@@ -15,7 +15,7 @@ ghost use Rattle.open_sheet.specs.Ready.{Ready, sheet_words, module_of};
 ghost use Rattle.rule_signatures.specs.Signature.{HasSig};
 
 use blocks::word;
-use error::{LoadErrorKind, TypeId, Verdict, What};
+use error::{LoadErrorKind, TypeId, type_in};
 use open_sheet::{Opened, type_at};
 
 // How many parameters the type at a position has; one that is no func type has none.
@@ -23,10 +23,10 @@ fn params_in(sheet: &[u8], n: usize, at: usize) -> u32
     requires { Whole (type_def (first_words sheet.now n) at) }
     ensures { result ≡ length (sig_of (value_of coroutine (type_def (first_words sheet.now n) at))).params }
 {
-    if word(sheet, at) == 0 {
-        return word(sheet, at + 1);
+    if word(sheet, at) != 0 {
+        return 0;
     }
-    0
+    word(sheet, at + 1)
 }
 
 // The results stand after the parameters, each a word.
@@ -34,11 +34,11 @@ fn results_in(sheet: &[u8], n: usize, at: usize) -> u32
     requires { Whole (type_def (first_words sheet.now n) at) }
     ensures { result ≡ length (sig_of (value_of coroutine (type_def (first_words sheet.now n) at))).results }
 {
-    if word(sheet, at) == 0 {
-        let params = word(sheet, at + 1) as usize;
-        return word(sheet, at + 2 + params);
+    if word(sheet, at) != 0 {
+        return 0;
     }
-    0
+    let params = word(sheet, at + 1) as usize;
+    word(sheet, at + 2 + params)
 }
 
 // A func type with at most one result.
@@ -46,25 +46,24 @@ fn is_signature(sheet: &[u8], n: usize, at: usize) -> bool
     requires { Whole (type_def (first_words sheet.now n) at) }
     ensures { result ≡ is_signature (value_of coroutine (type_def (first_words sheet.now n) at)) }
 {
-    if word(sheet, at) == 0 {
-        return results_in(sheet, n, at) <= 1;
-    }
-    false
+    word(sheet, at) == 0 && results_in(sheet, n, at) <= 1
 }
 
 // There is a type t, and it is a signature.
-pub fn check_signature(sheet: &[u8], work: &[u32], o: Opened, t: TypeId) -> Verdict
+pub fn check_signature(
+    sheet: &[u8],
+    work: &[u32],
+    o: Opened,
+    t: TypeId,
+) -> Result<(), LoadErrorKind>
     requires { Ready (sheet_words sheet.now o) work.now o }
     ensures { result ≡ verdict_of (signature_faults (module_of sheet.now o) t.0) }
 {
-    if t.0 < o.counts.types {
-        let p = type_at(work, o, t);
-        if is_signature(sheet, o.layout.words, p) {
-            return Verdict::Holds;
-        }
-        return Verdict::Broken(LoadErrorKind::BadSignature);
+    type_in(t, o.counts.types)?;
+    if is_signature(sheet, o.layout.words, type_at(work, o, t)) {
+        return Ok(());
     }
-    Verdict::Broken(LoadErrorKind::OutOfRange(What::Types, t.0))
+    Err(LoadErrorKind::BadSignature)
 }
 
 // How many parameters and results type t has: none where it is no func type, or there is no such type.
@@ -72,20 +71,20 @@ pub fn param_count(sheet: &[u8], work: &[u32], o: Opened, t: TypeId) -> u32
     requires { Ready (sheet_words sheet.now o) work.now o }
     ensures { result ≡ length (sig_params (module_of sheet.now o) t.0) }
 {
-    if t.0 < o.counts.types {
-        return params_in(sheet, o.layout.words, type_at(work, o, t));
+    if o.counts.types <= t.0 {
+        return 0;
     }
-    0
+    params_in(sheet, o.layout.words, type_at(work, o, t))
 }
 
 pub fn result_count(sheet: &[u8], work: &[u32], o: Opened, t: TypeId) -> u32
     requires { Ready (sheet_words sheet.now o) work.now o }
     ensures { result ≡ length (sig_results (module_of sheet.now o) t.0) }
 {
-    if t.0 < o.counts.types {
-        return results_in(sheet, o.layout.words, type_at(work, o, t));
+    if o.counts.types <= t.0 {
+        return 0;
     }
-    0
+    results_in(sheet, o.layout.words, type_at(work, o, t))
 }
 
 // Where the parameters and the results of func type t stand.
@@ -114,10 +113,7 @@ pub fn is_one_dyn(sheet: &[u8], n: usize, at: usize) -> bool
     requires { Whole (list_of value_type (first_words sheet.now n) at) }
     ensures { result ≡ one_dyn (value_of [] (list_of value_type (first_words sheet.now n) at)) }
 {
-    if word(sheet, at) == 1 {
-        return word(sheet, at + 1) == 12;
-    }
-    false
+    word(sheet, at) == 1 && word(sheet, at + 1) == 12
 }
 
 // Every value type of the list is dyn.
@@ -125,14 +121,12 @@ pub fn all_dyn(sheet: &[u8], n: usize, at: usize) -> bool
     requires { Whole (list_of value_type (first_words sheet.now n) at) }
     ensures { result ≡ all_of is_dyn (value_of [] (list_of value_type (first_words sheet.now n) at)) }
 {
-    let mut left = word(sheet, at);
     let mut p = at + 1;
-    while 0 < left {
+    for _ in 0..word(sheet, at) {
         if word(sheet, p) != 12 {
             return false;
         }
         p += 1;
-        left -= 1;
     }
     true
 }

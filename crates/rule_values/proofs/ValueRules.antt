@@ -11,9 +11,8 @@ use borrow.Author.Tests.{lt-ltb, le-ltb}
 use Rattle.blocks.specs.Blocks.{words}
 use Rattle.blocks.specs.Frame.{first_words}
 use Rattle.error.specs.declared.What.TheVariants.{Types}
-use Rattle.error.specs.declared.LoadErrorKind.{LoadErrorKind}
-use Rattle.error.specs.declared.Verdict.{Verdict}
-use Rattle.error.specs.declared.Verdict.TheVariants.{Holds}
+use Rattle.error.specs.Verdict.{Verdict}
+use Rattle.std.specs.Prelude.{Ok}
 use Rattle.error.specs.Answer.{in_range}
 use Rattle.error.specs.Verdict.{verdict_of}
 use Rattle.reader.specs.Reader.{broken, got, Reader}
@@ -22,14 +21,11 @@ use Rattle.reader.specs.Value.{Whole, value_of}
 use Rattle.reader.specs.ValueLaws.{not_whole, value_got}
 use Rattle.sheet.specs.Module.{ValueType, basic, ref, dyn, first_ref}
 use Rattle.sheet.specs.Decode.{value_type}
-use Rattle.sheet.specs.Encode.{encode_value}
-use Rattle.sheet.proofs.TypeCodes.{value_codes}
 use Rattle.open_layout.specs.Opened.{module_in}
 use Rattle.open_sheet.specs.declared.Opened.{Opened}
 use Rattle.open_sheet.specs.Ready.{Opens}
 use Rattle.open_sheet.specs.ReadyLaws.{count_types}
 use Rattle.types.specs.Types.{value_faults}
-use Rattle.law_judging.specs.Judging.{Judges, judges_next, judges_whole}
 
 -- ── a value type that was read ──
 
@@ -66,10 +62,10 @@ module _ (b : List ℕ) (n at : ℕ) where
   ref_read {w} h e l = read h e ∙ rw (le-ltb w 13 (omega arith), le-ltb w first_ref l)
 
   pub value_plain : {w : ℕ} → Whole (value_type (first_words b n) at) → w ≡ get_or (words b) at 0 → w < 16 →
-      Holds ≡ verdict_of (value_faults (module_in (first_words b n)) (value_of dyn (value_type (first_words b n) at)))
+      Ok tt ≡ verdict_of (value_faults (module_in (first_words b n)) (value_of dyn (value_type (first_words b n) at)))
   value_plain {w} h e l = go (dec_lt w 13)
     where
-      go : Dec (w < 13) → Holds ≡ verdict_of (value_faults (module_in (first_words b n)) (value_of dyn (value_type (first_words b n) at)))
+      go : Dec (w < 13) → Ok tt ≡ verdict_of (value_faults (module_in (first_words b n)) (value_of dyn (value_type (first_words b n) at)))
       go (yes k) = unfold value_faults verdict_of in ap (λ v. verdict_of (value_faults (module_in (first_words b n)) v)) (sym (value_got dyn (basic_read (value_in h) e k)))
       go (no k) = absurd (not_whole (unlisted_read (value_in h) e (omega arith) l) h)
 
@@ -79,17 +75,3 @@ module _ (b : List ℕ) (n at : ℕ) where
   value_ref {w} o h x e l k =
       k ∙ ap (λ c. verdict_of (in_range Types c (w - 16))) (count_types (first_words b n) o x)
       ∙ ap (λ v. verdict_of (value_faults (module_in (first_words b n)) v)) (sym (value_got dyn (ref_read (value_in h) e l)))
-
--- ── a list ──
-
--- each value type is a word
-pub value_ends : (ws : List ℕ) (q : ℕ) (a : ValueType) (p : ℕ) → value_type ws q ≡ got a p → p ≡ q + 1
-unfolding encode_value
-value_ends ws q a p e = ((value_codes ws).found q a p e).stands.end
-
-module _ (faults : ValueType → List LoadErrorKind) (ws : List ℕ) (at left q : ℕ) (x : Judges value_type faults ws at left q) (h : 0 < left) where
-  pub value_whole : Whole (value_type ws q)
-  value_whole = judges_whole value_type faults ws at left q x h
-
-  pub values_next : {r : Verdict} → r ≡ Holds → r ≡ verdict_of (faults (value_of dyn (value_type ws q))) → Judges value_type faults ws at (left - 1) (q + 1)
-  values_next e k = judges_next value_type faults ws at left q x h dyn (q + 1) e k (value_ends ws q)

@@ -10,48 +10,29 @@ ghost use Rattle.open_sheet.specs.Ready.{Opens, sheet_words, module_of};
 ghost use Rattle.types.specs.Types.{string_faults};
 ghost use Rattle.law_judging.specs.Judging.{list_faults};
 
+use crate::check_each;
 use blocks::word;
-use error::{StrId, TypeId, Verdict, string_in, type_in};
+use error::{LoadErrorKind, StrId, TypeId, string_in, type_in};
 use open_sheet::Opened;
 
 // String numbers in order.
-pub fn check_strings(sheet: &[u8], o: Opened, at: usize) -> Verdict
+pub fn check_strings(sheet: &[u8], o: Opened, at: usize) -> Result<(), LoadErrorKind>
     requires whole { Whole (list_of Reader.word (sheet_words sheet.now o) at) }
     requires opens { Opens (sheet_words sheet.now o) o }
     ensures { result ≡ verdict_of (list_faults (string_faults (module_of sheet.now o)) (list_of Reader.word (sheet_words sheet.now o) at)) }
 {
-    let mut left = word(sheet, at);
-    let mut p = at + 1;
-    while 0 < left {
-        match string_in(StrId(word(sheet, p)), o.counts.strings) {
-            Verdict::Holds => {}
-            Verdict::Broken(k) => {
-                return Verdict::Broken(k);
-            }
-        }
-        p += 1;
-        left -= 1;
-    }
-    Verdict::Holds
+    check_each(word(sheet, at), at + 1, 1, |p| {
+        string_in(StrId(word(sheet, p)), o.counts.strings)
+    })
 }
 
 // Type numbers in order.
-pub fn check_type_refs(sheet: &[u8], o: Opened, at: usize) -> Verdict
+pub fn check_type_refs(sheet: &[u8], o: Opened, at: usize) -> Result<(), LoadErrorKind>
     requires whole { Whole (list_of Reader.word (sheet_words sheet.now o) at) }
     requires opens { Opens (sheet_words sheet.now o) o }
     ensures { result ≡ verdict_of (list_faults (in_range Types (length (module_of sheet.now o).types)) (list_of Reader.word (sheet_words sheet.now o) at)) }
 {
-    let mut left = word(sheet, at);
-    let mut p = at + 1;
-    while 0 < left {
-        match type_in(TypeId(word(sheet, p)), o.counts.types) {
-            Verdict::Holds => {}
-            Verdict::Broken(k) => {
-                return Verdict::Broken(k);
-            }
-        }
-        p += 1;
-        left -= 1;
-    }
-    Verdict::Holds
+    check_each(word(sheet, at), at + 1, 1, |p| {
+        type_in(TypeId(word(sheet, p)), o.counts.types)
+    })
 }

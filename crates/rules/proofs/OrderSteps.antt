@@ -6,8 +6,8 @@ use native.Mathlib.Omega.{arith}
 use lib.ListN.{length}
 use Rattle.lists.specs.ListLaws.{get_d_other}
 use Rattle.error.specs.declared.LoadError.{LoadError}
-use Rattle.error.specs.declared.Judged.{Judged}
-use Rattle.error.specs.declared.Judged.TheVariants.{Passed, Refused}
+use Rattle.error.specs.Verdict.{Judged}
+use Rattle.std.specs.Prelude.{Err, Ok}
 use Rattle.error.specs.Verdict.{judged_of}
 use Rattle.error.specs.VerdictLaws.{judged_then, judged_stop}
 use Rattle.sheet.specs.Module.{Func, Module}
@@ -39,14 +39,14 @@ use Rattle.rules.specs.GroupLaws.{in_groups, front_types, links_ready, links_lin
 -- ── three lists of faults in a row ──
 
 module _ (a b c : List LoadError) where
-  first_stop : {r : Judged} (e : LoadError) → r ≡ Refused e → r ≡ judged_of a → Refused e ≡ judged_of (a ++ b ++ c)
+  first_stop : {r : Judged} (e : LoadError) → r ≡ Err e → r ≡ judged_of a → Err e ≡ judged_of (a ++ b ++ c)
   first_stop e h k = judged_stop (a ++ b) c e refl (judged_stop a b e h k)
 
-  second_stop : {r s : Judged} (e : LoadError) → r ≡ Passed → r ≡ judged_of a → s ≡ Refused e → s ≡ judged_of b →
-      Refused e ≡ judged_of (a ++ b ++ c)
+  second_stop : {r s : Judged} (e : LoadError) → r ≡ Ok tt → r ≡ judged_of a → s ≡ Err e → s ≡ judged_of b →
+      Err e ≡ judged_of (a ++ b ++ c)
   second_stop e h k i j = judged_stop (a ++ b) c e refl (sym i ∙ judged_then a b h k j)
 
-  third_last : {r s x : Judged} → r ≡ Passed → r ≡ judged_of a → s ≡ Passed → s ≡ judged_of b → x ≡ judged_of c → x ≡ judged_of (a ++ b ++ c)
+  third_last : {r s x : Judged} → r ≡ Ok tt → r ≡ judged_of a → s ≡ Ok tt → s ≡ judged_of b → x ≡ judged_of c → x ≡ judged_of (a ++ b ++ c)
   third_last h k i j l = judged_then (a ++ b) c i (judged_then a b h k j) l
 
 -- ── rules 2 to 4 ──
@@ -57,16 +57,16 @@ pub chains_judged : (ws w : List ℕ) (o : Opened) → Ready ws w o → {most : 
 chains_judged ws w o x e j = j ∙ ap (λ n. judged_of (parents_faults n (module_in ws))) (ready_most ws w o x e)
 
 module _ (m : Module) where
-  pub types_stop : {r : Judged} (e : LoadError) → r ≡ Refused e → r ≡ judged_of (types_faults m) → Refused e ≡ judged_of (front_faults m)
+  pub types_stop : {r : Judged} (e : LoadError) → r ≡ Err e → r ≡ judged_of (types_faults m) → Err e ≡ judged_of (front_faults m)
   unfolding front_faults
   types_stop = first_stop (types_faults m) (parents_faults (most_of m) m) (consts_faults 64 m)
 
-  pub parents_stop : {r s : Judged} (e : LoadError) → r ≡ Passed → r ≡ judged_of (types_faults m) → s ≡ Refused e →
-      s ≡ judged_of (parents_faults (most_of m) m) → Refused e ≡ judged_of (front_faults m)
+  pub parents_stop : {r s : Judged} (e : LoadError) → r ≡ Ok tt → r ≡ judged_of (types_faults m) → s ≡ Err e →
+      s ≡ judged_of (parents_faults (most_of m) m) → Err e ≡ judged_of (front_faults m)
   unfolding front_faults
   parents_stop = second_stop (types_faults m) (parents_faults (most_of m) m) (consts_faults 64 m)
 
-  pub consts_last : {r s x : Judged} → r ≡ Passed → r ≡ judged_of (types_faults m) → s ≡ Passed →
+  pub consts_last : {r s x : Judged} → r ≡ Ok tt → r ≡ judged_of (types_faults m) → s ≡ Ok tt →
       s ≡ judged_of (parents_faults (most_of m) m) → x ≡ judged_of (consts_faults 64 m) → x ≡ judged_of (front_faults m)
   unfolding front_faults
   consts_last = third_last (types_faults m) (parents_faults (most_of m) m) (consts_faults 64 m)
@@ -76,17 +76,17 @@ pub ruleset front_order = (types_stop, parents_stop, consts_last, kept_same)
 -- ── rules 5 and 6 ──
 
 module _ (hosts : List HostFn) (m : Module) where
-  pub imports_stop : {r : Judged} (e : LoadError) → r ≡ Refused e → r ≡ judged_of (imports_faults hosts m) →
-      Refused e ≡ judged_of (record_faults hosts m)
+  pub imports_stop : {r : Judged} (e : LoadError) → r ≡ Err e → r ≡ judged_of (imports_faults hosts m) →
+      Err e ≡ judged_of (record_faults hosts m)
   unfolding record_faults
   imports_stop = first_stop (imports_faults hosts m) (globals_faults m) (funcs_faults m)
 
-  pub globals_stop : {r s : Judged} (e : LoadError) → r ≡ Passed → r ≡ judged_of (imports_faults hosts m) → s ≡ Refused e →
-      s ≡ judged_of (globals_faults m) → Refused e ≡ judged_of (record_faults hosts m)
+  pub globals_stop : {r s : Judged} (e : LoadError) → r ≡ Ok tt → r ≡ judged_of (imports_faults hosts m) → s ≡ Err e →
+      s ≡ judged_of (globals_faults m) → Err e ≡ judged_of (record_faults hosts m)
   unfolding record_faults
   globals_stop = second_stop (imports_faults hosts m) (globals_faults m) (funcs_faults m)
 
-  pub funcs_last : {r s x : Judged} → r ≡ Passed → r ≡ judged_of (imports_faults hosts m) → s ≡ Passed → s ≡ judged_of (globals_faults m) →
+  pub funcs_last : {r s x : Judged} → r ≡ Ok tt → r ≡ judged_of (imports_faults hosts m) → s ≡ Ok tt → s ≡ judged_of (globals_faults m) →
       x ≡ judged_of (funcs_faults m) → x ≡ judged_of (record_faults hosts m)
   unfolding record_faults
   funcs_last = third_last (imports_faults hosts m) (globals_faults m) (funcs_faults m)
@@ -95,7 +95,7 @@ pub kept_equal : (o : Opened) (w v u : List ℕ) → Kept o w v → u ≡ v → 
 kept_equal o w v u k e = subst (Kept o w) (sym e) k
 
 -- functions' records leave work as it was
-pub linked_equal : (hosts : List HostFn) (ws w v : List ℕ) (o : Opened) {r s : Judged} → r ≡ Passed → LinkedIf r hosts ws w o → v ≡ w →
+pub linked_equal : (hosts : List HostFn) (ws w v : List ℕ) (o : Opened) {r s : Judged} → r ≡ Ok tt → LinkedIf r hosts ws w o → v ≡ w →
     LinkedIf s hosts ws v o
 linked_equal hosts ws w v o {r} {s} e l q = record { entries = λ _. subst (λ (u : List ℕ). HostEntries hosts ws u o (length (module_in ws).imports)) (sym q) (l.entries e) }
 
@@ -104,16 +104,16 @@ pub ruleset record_order = (imports_stop, globals_stop, funcs_last, kept_equal, 
 -- ── rule 8 ──
 
 module _ (m : Module) where
-  pub hooks_stop : {r : Judged} (e : LoadError) → r ≡ Refused e → r ≡ judged_of (hooks_faults m) → Refused e ≡ judged_of (end_faults m)
+  pub hooks_stop : {r : Judged} (e : LoadError) → r ≡ Err e → r ≡ judged_of (hooks_faults m) → Err e ≡ judged_of (end_faults m)
   unfolding end_faults
   hooks_stop = first_stop (hooks_faults m) (start_faults m) (exports_faults m)
 
-  pub start_stop : {r s : Judged} (e : LoadError) → r ≡ Passed → r ≡ judged_of (hooks_faults m) → s ≡ Refused e →
-      s ≡ judged_of (start_faults m) → Refused e ≡ judged_of (end_faults m)
+  pub start_stop : {r s : Judged} (e : LoadError) → r ≡ Ok tt → r ≡ judged_of (hooks_faults m) → s ≡ Err e →
+      s ≡ judged_of (start_faults m) → Err e ≡ judged_of (end_faults m)
   unfolding end_faults
   start_stop = second_stop (hooks_faults m) (start_faults m) (exports_faults m)
 
-  pub exports_last : {r s x : Judged} → r ≡ Passed → r ≡ judged_of (hooks_faults m) → s ≡ Passed → s ≡ judged_of (start_faults m) →
+  pub exports_last : {r s x : Judged} → r ≡ Ok tt → r ≡ judged_of (hooks_faults m) → s ≡ Ok tt → s ≡ judged_of (start_faults m) →
       x ≡ judged_of (exports_faults m) → x ≡ judged_of (end_faults m)
   unfolding end_faults
   exports_last = third_last (hooks_faults m) (start_faults m) (exports_faults m)
@@ -123,11 +123,11 @@ pub ruleset end_order = (hooks_stop, start_stop, exports_last, above_refl)
 -- ── rules 7 and 8 ──
 
 module _ (m : Module) where
-  pub codes_stop : {r : Judged} (e : LoadError) → r ≡ Refused e → r ≡ judged_of (codes_faults m) → Refused e ≡ judged_of (body_faults m)
+  pub codes_stop : {r : Judged} (e : LoadError) → r ≡ Err e → r ≡ judged_of (codes_faults m) → Err e ≡ judged_of (body_faults m)
   unfolding body_faults
   codes_stop e h k = judged_stop (codes_faults m) (end_faults m) e h k
 
-  pub ends_last : {r x : Judged} → r ≡ Passed → r ≡ judged_of (codes_faults m) → x ≡ judged_of (end_faults m) → x ≡ judged_of (body_faults m)
+  pub ends_last : {r x : Judged} → r ≡ Ok tt → r ≡ judged_of (codes_faults m) → x ≡ judged_of (end_faults m) → x ≡ judged_of (body_faults m)
   unfolding body_faults
   ends_last h k l = judged_then (codes_faults m) (end_faults m) h k l
 
@@ -203,15 +203,15 @@ module _ (hosts : List HostFn) (m : Module) where
   abbrev later : List LoadError
   later = record_faults hosts m ++ body_faults m
 
-  pub front_stop : {r : Judged} (e : LoadError) → r ≡ Refused e → r ≡ judged_of (front_faults m) → Refused e ≡ judged_of (faults_of hosts m)
+  pub front_stop : {r : Judged} (e : LoadError) → r ≡ Err e → r ≡ judged_of (front_faults m) → Err e ≡ judged_of (faults_of hosts m)
   front_stop e h k = judged_stop (front_faults m) later e h k ∙ sym (in_groups hosts m)
 
-  pub records_stop : {r s : Judged} (e : LoadError) → r ≡ Passed → r ≡ judged_of (front_faults m) → s ≡ Refused e →
-      s ≡ judged_of (record_faults hosts m) → Refused e ≡ judged_of (faults_of hosts m)
+  pub records_stop : {r s : Judged} (e : LoadError) → r ≡ Ok tt → r ≡ judged_of (front_faults m) → s ≡ Err e →
+      s ≡ judged_of (record_faults hosts m) → Err e ≡ judged_of (faults_of hosts m)
   records_stop e h k i j = judged_then (front_faults m) later h k (judged_stop (record_faults hosts m) (body_faults m) e i j)
       ∙ sym (in_groups hosts m)
 
-  pub bodies_last : {r s x : Judged} → r ≡ Passed → r ≡ judged_of (front_faults m) → s ≡ Passed → s ≡ judged_of (record_faults hosts m) →
+  pub bodies_last : {r s x : Judged} → r ≡ Ok tt → r ≡ judged_of (front_faults m) → s ≡ Ok tt → s ≡ judged_of (record_faults hosts m) →
       x ≡ judged_of (body_faults m) → x ≡ judged_of (faults_of hosts m)
   bodies_last h k i j l = judged_then (front_faults m) later h k (judged_then (record_faults hosts m) (body_faults m) i j l)
       ∙ sym (in_groups hosts m)

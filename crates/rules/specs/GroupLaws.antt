@@ -4,8 +4,8 @@ use Rattle.std.proofs.Common.{◌∙◌, append_assoc, arith}
 use Rattle.std.proofs.Math.Path.{ap}
 use Rattle.law_faults.specs.Empty.{append_empty}
 use Rattle.error.specs.declared.LoadError.{LoadError}
-use Rattle.error.specs.declared.Judged.{Judged}
-use Rattle.error.specs.declared.Judged.TheVariants.{Passed, Refused}
+use Rattle.error.specs.Verdict.{Judged}
+use Rattle.std.specs.Prelude.{Err, Ok}
 use Rattle.error.specs.Verdict.{judged_of}
 use Rattle.error.specs.VerdictLaws.{none_refused}
 use Rattle.sheet.specs.Module.{Module}
@@ -74,7 +74,7 @@ module _ (hosts : List HostFn) (m : Module) where
       ∙ ap judged_of (grouped (T ++ P) C I G F K H S E)
 
 -- rules 2 to 4 hold: so does rule 2
-pub front_types : (m : Module) {r : Judged} → r ≡ Passed → r ≡ judged_of (front_faults m) → types_faults m ≡ []
+pub front_types : (m : Module) {r : Judged} → r ≡ Ok tt → r ≡ judged_of (front_faults m) → types_faults m ≡ []
 unfolding front_faults
 front_types m e k =
     let T = types_faults m in
@@ -90,11 +90,11 @@ module _ (ws w : List ℕ) (o : Opened) (x : Ready ws w o) (v : List ℕ) (k : L
   links_ready = ready_below ws w o x v (record { len = k.len; same = λ i h. k.same i ((λ a b. omega arith), omega arith) })
 
   -- the places of the imports stay
-  pub links_linked : (hosts : List HostFn) {r s : Judged} → r ≡ Passed → LinkedIf r hosts ws w o → LinkedIf s hosts ws v o
+  pub links_linked : (hosts : List HostFn) {r s : Judged} → r ≡ Ok tt → LinkedIf r hosts ws w o → LinkedIf s hosts ws v o
   unfolding LinksKept
   links_linked hosts e l = record {
     entries = λ q. record { entry = λ i h. k.same (5 * o.layout.words + i) ((λ a b. omega arith), omega (arith, imports_inside ws w o x)) ∙ (l.entries e).entry i h };
   }
 
-pub linked_refused : (hosts : List HostFn) (ws w : List ℕ) (o : Opened) (e : LoadError) → LinkedIf (Refused e) hosts ws w o
+pub linked_refused : (hosts : List HostFn) (ws w : List ℕ) (o : Opened) (e : LoadError) → LinkedIf (Err e) hosts ws w o
 linked_refused hosts ws w o e = record { entries = λ q. let z : ◌≡◌ {A = ℕ} 0 1 = cc in absurd (omega arith) }

@@ -16,7 +16,7 @@ ghost use Rattle.rule7_arguments.specs.Arguments.{Tallied};
 ghost use Rattle.load.specs.Load.{faults_of};
 ghost use Rattle.rules.specs.Groups.{front_faults, record_faults, body_faults, end_faults, LinksKept};
 
-use error::Judged;
+use error::LoadError;
 use open_sheet::Opened;
 use rule_bodies::index_captures;
 use rule2_types::check_types;
@@ -33,7 +33,7 @@ use rule8_start::check_start;
 use sheet::most_on_chain;
 
 // Parents, with at most as many on a chain as the edition allows.
-fn check_chains(sheet: &[u8], work: &mut [u32], o: Opened) -> Judged
+fn check_chains(sheet: &[u8], work: &mut [u32], o: Opened) -> Result<(), LoadError>
     requires { Ready (sheet_words sheet.now o) work.old o }
     ensures value { result ≡ judged_of (parents_faults (most_of (module_of sheet.now o)) (module_of sheet.now o)) }
     ensures kept { Kept o work.old work.new }
@@ -42,23 +42,13 @@ fn check_chains(sheet: &[u8], work: &mut [u32], o: Opened) -> Judged
 }
 
 // Types, parents, constants at most 64 deep; the first fault.
-fn check_front(sheet: &[u8], work: &mut [u32], o: Opened) -> Judged
+fn check_front(sheet: &[u8], work: &mut [u32], o: Opened) -> Result<(), LoadError>
     requires { Ready (sheet_words sheet.now o) work.old o }
     ensures value { result ≡ judged_of (front_faults (module_of sheet.now o)) }
     ensures kept { Kept o work.old work.new }
 {
-    match check_types(sheet, work, o) {
-        Judged::Passed => {}
-        Judged::Refused(e) => {
-            return Judged::Refused(e);
-        }
-    }
-    match check_chains(sheet, work, o) {
-        Judged::Passed => {}
-        Judged::Refused(e) => {
-            return Judged::Refused(e);
-        }
-    }
+    check_types(sheet, work, o)?;
+    check_chains(sheet, work, o)?;
     check_consts(sheet, work, o, 64)
 }
 
@@ -70,7 +60,7 @@ fn check_records(
     hosts: &[u8],
     n: usize,
     index: &[u32],
-) -> Judged
+) -> Result<(), LoadError>
     requires ready { Ready (sheet_words sheet.now o) work.old o }
     requires o_value { types_faults (module_of sheet.now o) ≡ [] }
     requires sorted_hosts { SortedHosts (first_words hosts.now n) index.now }
@@ -78,40 +68,20 @@ fn check_records(
     ensures kept { Kept o work.old work.new }
     ensures linked_if { LinkedIf result (hosts_in (first_words hosts.now n)) (sheet_words sheet.now o) work.new o }
 {
-    match check_imports(sheet, work, o, hosts, n, index) {
-        Judged::Passed => {}
-        Judged::Refused(e) => {
-            return Judged::Refused(e);
-        }
-    }
-    match check_globals(sheet, o) {
-        Judged::Passed => {}
-        Judged::Refused(e) => {
-            return Judged::Refused(e);
-        }
-    }
+    check_imports(sheet, work, o, hosts, n, index)?;
+    check_globals(sheet, o)?;
     check_funcs(sheet, work, o)
 }
 
 // Every hook, start, exports.
-fn check_ends(sheet: &[u8], work: &mut [u32], o: Opened) -> Judged
+fn check_ends(sheet: &[u8], work: &mut [u32], o: Opened) -> Result<(), LoadError>
     requires ready { Ready (sheet_words sheet.now o) work.old o }
     requires captured { Captured (sheet_words sheet.now o) work.old o }
     ensures value { result ≡ judged_of (end_faults (module_of sheet.now o)) }
     ensures above { Above o work.old work.new }
 {
-    match check_hooks(sheet, work, o) {
-        Judged::Passed => {}
-        Judged::Refused(e) => {
-            return Judged::Refused(e);
-        }
-    }
-    match check_start(sheet, work, o) {
-        Judged::Passed => {}
-        Judged::Refused(e) => {
-            return Judged::Refused(e);
-        }
-    }
+    check_hooks(sheet, work, o)?;
+    check_start(sheet, work, o)?;
     check_exports(sheet, work, o)
 }
 
@@ -126,19 +96,14 @@ fn tally(sheet: &[u8], work: &mut [u32], o: Opened)
 }
 
 // Every function's code, then what comes after it.
-fn check_bodies(sheet: &[u8], work: &mut [u32], o: Opened) -> Judged
+fn check_bodies(sheet: &[u8], work: &mut [u32], o: Opened) -> Result<(), LoadError>
     requires ready { Ready (sheet_words sheet.now o) work.old o }
     requires words_bound { o.layout.words ≤ 520192 }
     ensures value { result ≡ judged_of (body_faults (module_of sheet.now o)) }
     ensures links_kept { LinksKept o work.old work.new }
 {
     tally(sheet, work, o);
-    match check_codes(sheet, work, o) {
-        Judged::Passed => {}
-        Judged::Refused(e) => {
-            return Judged::Refused(e);
-        }
-    }
+    check_codes(sheet, work, o)?;
     check_ends(sheet, work, o)
 }
 
@@ -150,7 +115,7 @@ pub fn check_module(
     hosts: &[u8],
     n: usize,
     index: &[u32],
-) -> Judged
+) -> Result<(), LoadError>
     requires ready { Ready (sheet_words sheet.now o) work.old o }
     requires words_bound { o.layout.words ≤ 520192 }
     requires sorted_hosts { SortedHosts (first_words hosts.now n) index.now }
@@ -158,17 +123,7 @@ pub fn check_module(
     ensures ready_2 { Ready (sheet_words sheet.now o) work.new o }
     ensures linked_if { LinkedIf result (hosts_in (first_words hosts.now n)) (sheet_words sheet.now o) work.new o }
 {
-    match check_front(sheet, work, o) {
-        Judged::Passed => {}
-        Judged::Refused(e) => {
-            return Judged::Refused(e);
-        }
-    }
-    match check_records(sheet, work, o, hosts, n, index) {
-        Judged::Passed => {}
-        Judged::Refused(e) => {
-            return Judged::Refused(e);
-        }
-    }
+    check_front(sheet, work, o)?;
+    check_records(sheet, work, o, hosts, n, index)?;
     check_bodies(sheet, work, o)
 }

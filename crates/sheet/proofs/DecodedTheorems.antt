@@ -1,7 +1,7 @@
 -- What any list of numbers decodes to, bytes or not: types and functions that have codes, and no more types than words.
 use Rattle.std.specs.Prelude.{◌≡◌, refl, List, [], ℕ, ◌+◌, ◌*◌, ◌≤◌, length}
 use Rattle.std.proofs.Common.{ap, subst, ◌∙◌, length-take}
-use Rattle.std.proofs.Math.Option.{some}
+use Rattle.std.specs.Prelude.{Some}
 use native.Mathlib.Omega.{arith}
 use Rattle.lists.specs.Lists.{concat_map}
 use Rattle.lists.specs.ListLaws.{concat_map_bound}
@@ -58,32 +58,32 @@ module_read ws m p q e =
     } ≡ m = cc in
     subst (Read ws) z (record { types = o₂; funcs = o₆ }, omega (arith, types_few ts, stands_in ws s₂, s₂.end), refl)
 
-framed_few : (s ws : List ℕ) → framed newest_edition s ≡ some ws → length ws ≤ most_words
+framed_few : (s ws : List ℕ) → framed newest_edition s ≡ Some ws → length ws ≤ most_words
 framed_few s ws e =
     let r = framed_intact newest_edition s ws e in
     let i = r.0 in
     omega (arith, ap length r.1, length-take (length_word (words s)) (words s), i.in_block, i.few_blocks)
 
-framed_within : (s ws : List ℕ) → framed newest_edition s ≡ some ws → length ws ≤ length_word (words s)
+framed_within : (s ws : List ℕ) → framed newest_edition s ≡ Some ws → length ws ≤ length_word (words s)
 framed_within s ws e = omega (arith, ap length (framed_intact newest_edition s ws e).1, length-take (length_word (words s)) (words s))
 
-pub decoded : (s : List ℕ) (m : Module) → decode s ≡ some m → Coded m
+pub decoded : (s : List ℕ) (m : Module) → decode s ≡ Some m → Coded m
 unfolding decode
 decoded s m e = content_inv module_of (framed newest_edition s) m e λ ws e₁ e₂. (module_read ws m 2 (length ws) e₂).0
 
-pub decoded_few : (s : List ℕ) (m : Module) → decode s ≡ some m → length m.types ≤ most_words
+pub decoded_few : (s : List ℕ) (m : Module) → decode s ≡ Some m → length m.types ≤ most_words
 unfolding decode
 decoded_few s m e = content_inv module_of (framed newest_edition s) m e λ ws e₁ e₂.
     omega (arith, (module_read ws m 2 (length ws) e₂).1, framed_few s ws e₁)
 
 -- no more types than the sheet says it has words
-pub decoded_within : (s : List ℕ) (m : Module) → decode s ≡ some m → length m.types ≤ length_word (words s)
+pub decoded_within : (s : List ℕ) (m : Module) → decode s ≡ Some m → length m.types ≤ length_word (words s)
 unfolding decode
 decoded_within s m e =
     content_inv module_of (framed newest_edition s) m e λ ws e₁ e₂. omega (arith, (module_read ws m 2 (length ws) e₂).1, framed_within s ws e₁)
 
 -- of the edition that word 0 states, 1 or 2
-pub decoded_edition : (s : List ℕ) (m : Module) → decode s ≡ some m →
+pub decoded_edition : (s : List ℕ) (m : Module) → decode s ≡ Some m →
     (m.edition ≡ edition_word (words s)) × (1 ≤ edition_word (words s)) × (edition_word (words s) ≤ newest_edition)
 unfolding decode
 decoded_edition s m e =

@@ -5,7 +5,7 @@ use Rattle.std.proofs.Math.Path.{refl, ap}
 use Rattle.std.proofs.Common.{◌∙◌}
 use mathlib.Core.List.{List, [], ◌∷◌, append_assoc}
 use Rattle.std.proofs.Math.Bool.{cond}
-use Rattle.std.proofs.Math.Option.{none, some}
+use Rattle.std.specs.Prelude.{None, Some}
 use Rattle.lists.specs.Lists.{all_of}
 use Rattle.lists.specs.ListLaws.{both, and_first, and_second}
 use Rattle.reader.specs.Reader.{got, pure, fail, list_of, encode_list}
@@ -30,7 +30,7 @@ module _ (ws : List ℕ) where
   pub each_param_codes : Codes ws (list_of param_of) (encode_list encode_param) free
   each_param_codes = free_codes ws param_of encode_param param_codes
 
-  params_found : (k p p₁ : ℕ) (a : ParamList) (q : ℕ) → Stands ws p (k ∷ []) p₁ → get_or (pure none ∷ some_params ∷ []) k fail ws p₁ ≡ got a q → Found ws encode_params free p a q
+  params_found : (k p p₁ : ℕ) (a : ParamList) (q : ℕ) → Stands ws p (k ∷ []) p₁ → get_or (pure None ∷ some_params ∷ []) k fail ws p₁ ≡ got a q → Found ws encode_params free p a q
   unfolding some_params encode_params
   params_found zero p p₁ a q s e = landed e s refl
   params_found (suc zero) p p₁ a q s e = seq ws each_param_codes p₁ _ e λ xs p₂ s₁ o e. landed e (join ws s s₁) refl
@@ -38,8 +38,8 @@ module _ (ws : List ℕ) where
 
   params_reads : (a : ParamList) (p q : ℕ) → Stands ws p (encode_params a) q → param_list ws p ≡ got a q
   unfolding param_list some_params encode_params
-  params_reads none p q s = final ws (word_codes ws) 0 _ refl s
-  params_reads (some xs) p q s = next ws (word_codes ws) 1 _ _ refl s λ p₁ s. final ws each_param_codes xs _ refl s
+  params_reads None p q s = final ws (word_codes ws) 0 _ refl s
+  params_reads (Some xs) p q s = next ws (word_codes ws) 1 _ _ refl s λ p₁ s. final ws each_param_codes xs _ refl s
 
   pub params_codes : Codes ws param_list encode_params free
   unfolding param_list

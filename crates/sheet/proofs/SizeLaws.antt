@@ -1,7 +1,7 @@
 -- Readers of the sheet whose values have a fixed number of words.
 use Rattle.std.specs.Prelude.{ℕ, ◌≡◌, refl, List}
 use Rattle.std.proofs.Common.{◌∙◌, arith}
-use Rattle.reader.specs.declared.Step.{Step}
+use Rattle.std.specs.Prelude.{Option}
 use Rattle.reader.specs.Reader.{◌>>=◌, pure, word, many, list_of}
 use Rattle.reader.specs.Step.{step_of}
 use Rattle.reader.proofs.RecordSteps.{Sized, sized_next, sized_two, sized_list, lists_alike}
@@ -27,5 +27,5 @@ handler_sized =
     sized_two λ t c. record { start = s; end = e; target = t; catch = c }
 
 -- call shapes end where lists of two words do
-pub shapes_alike : (ws : List ℕ) (p : ℕ) {r : Step} → r ≡ step_of (list_of (list_of (many 2 word)) ws p) → r ≡ step_of (list_of (list_of arg_of) ws p)
+pub shapes_alike : (ws : List ℕ) (p : ℕ) {r : Option ℕ} → r ≡ step_of (list_of (list_of (many 2 word)) ws p) → r ≡ step_of (list_of (list_of arg_of) ws p)
 shapes_alike ws p e = e ∙ lists_alike (list_of (many 2 word)) (list_of arg_of) ws (λ q. sized_list arg_sized ws q refl) p

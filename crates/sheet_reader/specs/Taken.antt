@@ -1,9 +1,7 @@
 -- What code says of a word that a reader takes.
-use Rattle.std.specs.Prelude.{ℕ}
+use Rattle.std.specs.Prelude.{ℕ, Option, Some, None}
 use Rattle.reader.specs.Reader.{Got, broken, got}
-use Rattle.sheet_reader.specs.declared.Taken.{Taken}
-use Rattle.sheet_reader.specs.declared.Taken.TheVariants.{Word, Broken}
 
-unfoldable pub taken_of : Got ℕ → Taken
-taken_of broken = Broken
-taken_of (got w p) = Word w p
+unfoldable pub taken_of : Got ℕ → Option (ℕ × ℕ)
+taken_of broken = None
+taken_of (got w p) = Some (w, p)

@@ -12,29 +12,19 @@ use Rattle.lists.specs.ListLaws.{concat_map_append}
 use Rattle.law_counting.specs.Counting.{sum_append}
 use Rattle.writing.specs.Writing.{written}
 use Rattle.writing.specs.WritingLaws.{written_none, written_then, written_length}
-use Rattle.descends.specs.declared.FamilySize.{FamilySize}
-use Rattle.descends.specs.declared.FamilySize.TheVariants.{Size, NotLinked}
-use Rattle.descends.specs.Sizes.{size_in}
+use Rattle.std.specs.Result.{result_unwrap_or}
+use Rattle.descends.specs.Sizes.{FamilySize, size_in}
 use Rattle.exact.specs.Exact.{value_of}
-use Rattle.families.specs.declared.StructCount.{StructCount}
-use Rattle.families.specs.declared.StructCount.TheVariants.{Structs, Broken}
-use Rattle.families.specs.Counted.{structs_in}
 use Rattle.report_lines.specs.declared.Totals.{Totals}
 use Rattle.report_lines.specs.Reported.{total_numbers}
 use Rattle.sheet_report.specs.declared.FamilyLines.{FamilyLines}
-use Rattle.sheet_report.specs.Lines.{size_or0, count_or0, size_word, line_in, lines_in, LinesWritten}
+use Rattle.sheet_report.specs.Lines.{size_word, line_in, lines_in, LinesWritten}
 
 -- ── the size of one ──
 
-pub sized : (ws : List ℕ) (t : ℕ) {x : FamilySize} {n : ℕ} → x ≡ size_in ws t → x ≡ Size n → n ≡ size_word ws t
-unfolding size_word size_or0
-sized ws t e f = ap size_or0 (sym f ∙ e)
-
-pub unsized : (ws : List ℕ) (t : ℕ) {x : FamilySize} → x ≡ size_in ws t → x ≡ NotLinked → 0 ≡ size_word ws t
-unfolding size_word size_or0
-unsized ws t e f = ap size_or0 (sym f ∙ e)
-
-pub ruleset sizing = (sized, unsized)
+pub sized : (ws : List ℕ) (t : ℕ) {x : FamilySize} {n : ℕ} → x ≡ size_in ws t → n ≡ result_unwrap_or x 0 → n ≡ size_word ws t
+unfolding size_word
+sized ws t e f = f ∙ ap (λ r. result_unwrap_or r 0) e
 
 -- ── two words ──
 
@@ -84,18 +74,6 @@ pub ruleset family = (none_written, none_place, none_size, one_written, one_plac
 pub no_numbers : (t : Totals) → value_of t.structs ≡ 0 → value_of t.sizes ≡ 0 → total_numbers t ≡ 0 ∷ 0 ∷ []
 unfolding total_numbers
 no_numbers t e f = ap₂ (λ x y. x ∷ y ∷ []) e f
-
--- ── the count ──
-
-pub counted : (sheet : List ℕ) {x : StructCount} {n : ℕ} → x ≡ structs_in sheet → x ≡ Structs n → n ≡ count_or0 (structs_in sheet)
-unfolding count_or0
-counted sheet e f = ap count_or0 (sym f ∙ e)
-
-pub uncounted : (sheet : List ℕ) {x : StructCount} → x ≡ structs_in sheet → x ≡ Broken → 0 ≡ count_or0 (structs_in sheet)
-unfolding count_or0
-uncounted sheet e f = ap count_or0 (sym f ∙ e)
-
-pub ruleset counts = (counted, uncounted)
 
 -- ── one number more ──
 

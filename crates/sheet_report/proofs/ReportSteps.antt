@@ -3,7 +3,8 @@ use Prim.Native.Nat.{ℕ, ◌+◌, ◌*◌, ◌≤◌}
 use mathlib.Core.Path.{◌≡◌, refl, sym, ap, ap₂, ◌∙◌, subst, fun_ext}
 use mathlib.Core.List.{List, [], ◌∷◌, ◌++◌}
 use mathlib.Core.Bool.{Bool, true, false, cond}
-use mathlib.Core.Option.{Option}
+use Rattle.std.specs.Prelude.{Option, unwrap_or, Err, Ok}
+use Rattle.std.specs.Result.{result_unwrap_or}
 use native.Mathlib.Omega.{arith}
 use lib.Dec.{ltb}
 use lib.ListN.{length, take, drop}
@@ -15,14 +16,12 @@ use Rattle.law_counting.specs.Counting.{sum_ext}
 use Rattle.law_counting.specs.Kept.{places_kept, kept_past, kept_places, concat_map_keep, sum_keep}
 use Rattle.blocks.specs.Blocks.{words, length_word}
 use Rattle.error.specs.declared.LoadError.{LoadError}
-use Rattle.error.specs.declared.Loaded.{Loaded}
-use Rattle.error.specs.declared.Loaded.TheVariants.{Accepted, Refused}
+use Rattle.error.specs.Answer.{Loaded}
 use Rattle.sheet.specs.Module.{Module, TypeDef, no_module, coroutine, type_at, is_struct}
 use Rattle.sheet.proofs.DecodedTheorems.{decoded_within}
 use Rattle.sheet.specs.TypeLaws.{struct_known}
 use Rattle.sheet.specs.Editions.{most_of}
 use Rattle.writing.specs.Writing.{written}
-use Rattle.descends.specs.declared.FamilySize.TheVariants.{Size}
 use Rattle.descends.specs.Sizes.{size_in}
 use Rattle.load.specs.Load.{needed, fits, enough, long_enough, load, table_after, work_after}
 use Rattle.load.proofs.KindLaws.{Links, accepted}
@@ -36,7 +35,7 @@ use Rattle.calls.specs.Calls.{Loads, Begins}
 use Rattle.family_calls.specs.FamilyCalls.{SizesRight}
 use Rattle.family_calls.proofs.FamilyCallLaws.{ModuleRule, counted_rule, sizes_right}
 use Rattle.sheet_report.specs.declared.FamilyLines.{FamilyLines}
-use Rattle.sheet_report.specs.Lines.{size_or0, count_or0, size_word, line_in, lines_in, LinesWritten}
+use Rattle.sheet_report.specs.Lines.{size_word, line_in, lines_in, LinesWritten}
 
 written_first : (w xs : List ℕ) → written w 0 xs ≡ xs ++ drop (length xs) w
 unfolding written
@@ -74,7 +73,7 @@ lines_length m =
 -- ── lines and sizes of a table on which every size is the declared one ──
 
 module _ (ws : List ℕ) (m : Module) (rule : ModuleRule m) (few : length m.types ≤ 2032)
-    (declared : (a : ℕ) → size_in ws a ≡ Size (family_size (most_of m) m.types a)) where
+    (declared : (a : ℕ) → size_in ws a ≡ Ok (family_size (most_of m) m.types a)) where
   abbrev types : List TypeDef
   types = m.types
 
@@ -82,8 +81,8 @@ module _ (ws : List ℕ) (m : Module) (rule : ModuleRule m) (few : length m.type
   most = most_of m
 
   size_is : (a : ℕ) → size_word ws a ≡ family_size most types a
-  unfolding size_word size_or0
-  size_is a = ap size_or0 (declared a)
+  unfolding size_word
+  size_is a = ap (λ r. result_unwrap_or r 0) (declared a)
 
   size_if : (a : ℕ) (b : Bool) → is_one types a ≡ b → size_word ws a ≡ cond b (family_size most types a) 0
   size_if a true e = size_is a
@@ -120,12 +119,12 @@ module _ (hosts sheet table work lines : List ℕ) (a : length table ≡ 16320) 
   unfolding judged
   is_judged = e ∙ ap₂ (load sheet hosts) a b
 
-  pub refused_report : {x : LoadError} → r ≡ Refused x →
-      Reports hosts sheet lines (record { answer = Refused x; words = 0; structs = 0; sizes = 0 }) lines
+  pub refused_report : {x : LoadError} → r ≡ Err x →
+      Reports hosts sheet lines (record { answer = r; words = 0; structs = 0; sizes = 0 }) lines
   refused_report {x} q =
       let none = refused_none hosts sheet x (sym is_judged ∙ q) in
       record {
-        answers = sym q ∙ is_judged;
+        answers = is_judged;
         tells = sym (ap lines_of none ∙ unfold struct_numbers no_module in refl);
         rest = refl;
         words = sym (ap (λ m. 2 * structs_total m) none ∙ unfold structs_total struct_count no_module in refl);
@@ -133,7 +132,7 @@ module _ (hosts sheet table work lines : List ℕ) (a : length table ≡ 16320) 
         sizes = sym (ap sizes_total none ∙ unfold sizes_total struct_numbers no_module in refl);
       }
 
-  module _ {l : ℕ} (q : r ≡ Accepted l) where
+  module _ {l : ℕ} (q : r ≡ Ok l) where
     links : Links sheet hosts 16320 16320 l
     links = (accepted sheet hosts 16320 16320 l).0 (sym (ap₂ (load sheet hosts) a b) ∙ sym e ∙ q)
 
@@ -150,27 +149,27 @@ module _ (hosts sheet table work lines : List ℕ) (a : length table ≡ 16320) 
     few : length links.source.types ≤ 2032
     few = omega (arith, decoded_within sheet links.source links.decodes, long)
 
-    count_is : {n : ℕ} → n ≡ count_or0 (structs_in sheet) → n ≡ structs_total links.source
-    unfolding structs_in counted_of count_or0 structs_total
-    count_is c = c ∙ ap (λ (o : Option Module). count_or0 (counted_of o)) links.decodes
+    count_is : {n : ℕ} → n ≡ unwrap_or (structs_in sheet) 0 → n ≡ structs_total links.source
+    unfolding structs_in counted_of structs_total
+    count_is c = c ∙ ap (λ (o : Option Module). unwrap_or (counted_of o) 0) links.decodes
 
     pub accepted_report : (left v : List ℕ) (f : FamilyLines) {n : ℕ} → left ≡ table_after sheet hosts table work →
         LinesWritten left lines 2032 v f →
-        n ≡ count_or0 (structs_in sheet) →
-        Reports hosts sheet lines (record { answer = Accepted l; words = f.words; structs = n; sizes = f.sizes }) v
+        n ≡ unwrap_or (structs_in sheet) 0 →
+        Reports hosts sheet lines (record { answer = r; words = f.words; structs = n; sizes = f.sizes }) v
     unfolding SizesRight
     accepted_report left v f t g c =
         let m = links.source in
         let after = work_after sheet hosts table work in
-        let calls : Loads sheet hosts table work (Accepted l) left after = record { answers = sym q ∙ e; leaves = t; clears = refl } in
+        let calls : Loads sheet hosts table work (Ok l) left after = record { answers = sym q ∙ e; leaves = t; clears = refl } in
         let asked = sizes_right sheet hosts table work l left after m links.decodes calls left (unfold Begins in refl) in
-        let declared : (x : ℕ) → size_in left x ≡ Size (family_size (most_of m) m.types x) =
+        let declared : (x : ℕ) → size_in left x ≡ Ok (family_size (most_of m) m.types x) =
         λ x. asked.declared x (size_in left x) (record { answers = refl }) in
         let rule = subst ModuleRule module_is (counted_rule hosts sheet) in
         let lists = lines_are left m rule few declared in
         let first = g.done ∙ written_first lines (lines_in left 2032) in
         record {
-          answers = sym q ∙ is_judged;
+          answers = is_judged;
           tells =
               ap₂ take g.words first
               ∙ take-append_seam (lines_in left 2032) (drop (length (lines_in left 2032)) lines)

@@ -1,17 +1,15 @@
 // The report on one sheet, and the totals over many.
 #![tactic(auto)]
 
-ghost use Rattle.std.specs.Prelude.{◌≡◌, [], ◌∷◌, ◌+◌, ◌≤◌, ◌<◌, length};
+ghost use Rattle.std.specs.Prelude.{◌≡◌, [], ◌∷◌, ◌+◌, ◌≤◌, ◌<◌, length, unwrap_or};
 ghost use Rattle.families.specs.Counted.{structs_in};
 ghost use Rattle.report_lines.specs.Reported.{Reports, total_numbers};
 ghost use Rattle.writing.specs.Writing.{written};
-ghost use Rattle.sheet_report.specs.Lines.{size_word, line_in, count_or0, LinesWritten};
+ghost use Rattle.sheet_report.specs.Lines.{size_word, line_in, LinesWritten};
 ghost use Rattle.sheet_report.specs.Sums.{SpareBoth, AddsReport};
 
-use descends::FamilySize;
-use error::{Loaded, TypeId};
+use error::TypeId;
 use exact::{add, nothing};
-use families::StructCount;
 use family_sheets::count_structs;
 use loader::load;
 use query::family_size;
@@ -29,10 +27,7 @@ fn size_of(table: &[u32], t: u32) -> u32
     ensures value { result ≡ size_word table.now t }
     ensures upper_bound { result < 4294967296 }
 {
-    match family_size(table, TypeId(t)) {
-        FamilySize::Size(n) => n,
-        FamilySize::NotLinked => 0,
-    }
+    family_size(table, TypeId(t)).unwrap_or(0)
 }
 
 // A type and its size.
@@ -58,9 +53,8 @@ fn write_family(table: &[u32], lines: &mut [u32], t: u32, f: FamilyLines) -> Fam
     if n == 0 {
         return f;
     }
-    let next = write_line(lines, f.words, t, n);
     FamilyLines {
-        words: next,
+        words: write_line(lines, f.words, t, n),
         sizes: f.sizes + n as u64,
     }
 }
@@ -71,23 +65,18 @@ fn write_families(table: &[u32], lines: &mut [u32]) -> FamilyLines
     ensures lines_written { LinesWritten table.now lines.old 2032 lines.new result }
     ensures sizes_bound { result.sizes < 1000000000000000000 }
 {
-    let mut t = 0u32;
     let mut f = FamilyLines { words: 0, sizes: 0 };
-    while t < 2032 {
+    for t in 0..2032 {
         f = write_family(table, lines, t, f);
-        t += 1;
     }
     f
 }
 
 // The struct types by the declarations.
 fn count_declared(sheet: &[u8]) -> u32
-    ensures { result ≡ count_or0 (structs_in sheet.now) }
+    ensures { result ≡ unwrap_or (structs_in sheet.now) 0 }
 {
-    match count_structs(sheet) {
-        StructCount::Structs(n) => n,
-        StructCount::Broken => 0,
-    }
+    count_structs(sheet).unwrap_or(0)
 }
 
 // Table and work are enough for 16 blocks, which hold N = 2,032 words; a longer sheet gets 24.
@@ -103,17 +92,17 @@ fn report_in(
 {
     let answer = load(sheet, hosts, table, work);
     match answer {
-        Loaded::Accepted(l) => {
+        Ok(_) => {
             let f = write_families(table, lines);
             SheetReport {
-                answer: answer,
+                answer,
                 words: f.words,
                 structs: count_declared(sheet),
                 sizes: f.sizes,
             }
         }
-        Loaded::Refused(e) => SheetReport {
-            answer: answer,
+        Err(_) => SheetReport {
+            answer,
             words: 0,
             structs: 0,
             sizes: 0,

@@ -1,8 +1,8 @@
 -- How long the records of the linked table are.
 use Rattle.std.specs.Prelude.{ℕ, suc, ◌+◌, ◌*◌, ◌≤◌, min, ◌≡◌, List, [], ◌∷◌, ◌++◌, Bool, true, false, cond, eqb, ltb, length, take}
+use Rattle.std.specs.Prelude.{None, Some}
 use Rattle.std.proofs.Math.Path.{refl}
 use mathlib.Core.List
-use Rattle.std.proofs.Math.Option.{none, some}
 use Rattle.std.proofs.Common.{arith, length-append, length-take}
 use Rattle.std.proofs.lemmas.List.{length-map}
 use Rattle.lists.specs.Lists.{from, map_from}
@@ -151,8 +151,8 @@ values_length vs = omega (arith, length_concat_map encode_value 1 one vs)
 
 params_length : (ps : ParamList) → 1 ≤ length (encode_params ps)
 unfolding encode_params
-params_length none = omega arith
-params_length (some ps) = omega arith
+params_length None = omega arith
+params_length (Some ps) = omega arith
 
 insts_length : (is : List Inst) → length (encode_list encode_inst is) ≡ 1 + 2 * length is
 insts_length is = omega (arith, length_concat_map encode_inst 2 two is)

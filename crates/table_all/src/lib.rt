@@ -1,7 +1,7 @@
 // The linked table: eight sections, then the header before them.
 #![tactic(auto)]
 
-ghost use Rattle.std.specs.Prelude.{◌≡◌, [], ◌∷◌, ◌+◌, ◌*◌, ◌≤◌, ◌<◌, length};
+ghost use Rattle.std.specs.Prelude.{◌≡◌, ◌+◌, ◌*◌, ◌≤◌, ◌<◌, length};
 ghost use Rattle.region.specs.Region.{Frame};
 ghost use Rattle.open_sheet.specs.Ready.{Ready, sheet_words, module_of};
 ghost use Rattle.writing.specs.Writing.{written};
@@ -14,7 +14,7 @@ use table_hooks::write_hooks;
 use table_imports::{write_canon, write_imports};
 use table_spans::write_spans;
 use table_types::write_types;
-use writing::push;
+use writing::push_all;
 
 // Where the types', imports' and hooks' sections start, and where the last ends.
 #[derive(Clone, Copy)]
@@ -49,10 +49,10 @@ fn write_front(sheet: &[u8], work: &mut [u32], o: Opened, table: &mut [u32], at:
     let hooks = write_imports(sheet, work, o, table, imports);
     let end = write_hooks(sheet, o, table, hooks);
     Front {
-        types: types,
-        imports: imports,
-        hooks: hooks,
-        end: end,
+        types,
+        imports,
+        hooks,
+        end,
     }
 }
 
@@ -69,35 +69,31 @@ fn write_back(sheet: &[u8], work: &mut [u32], o: Opened, table: &mut [u32], at: 
     let spans = write_global_references(sheet, o, table, references);
     let end = write_spans(sheet, work, o, table, spans);
     Back {
-        globals: globals,
-        references: references,
-        spans: spans,
-        end: end,
+        globals,
+        references,
+        spans,
+        end,
     }
 }
 
-// Four words side by side.
-fn push_four(table: &mut [u32], at: usize, a: usize, b: usize, c: usize, d: usize) -> usize
-    requires at_in_bounds { at + 4 ≤ length table.old }
-    requires a_bound { (a < 4294967296) × ((b < 4294967296) × ((c < 4294967296) × (d < 4294967296))) }
-    ensures table_after { table.new ≡ written table.old at (a ∷ b ∷ c ∷ d ∷ []) }
-    ensures value { result ≡ at + 4 }
-{
-    let p = push(table, at, a as u32);
-    let p = push(table, p, b as u32);
-    let p = push(table, p, c as u32);
-    push(table, p, d as u32)
-}
-
-fn write_header(table: &mut [u32], f: Front, b: Back)
+fn write_header(table: &mut [u32], front: Front, back: Back)
     requires in_bounds { 10 ≤ length table.old }
-    requires small { Small f b }
-    ensures { table.new ≡ written table.old 0 (header_of f b) }
+    requires small { Small front back }
+    ensures { table.new ≡ written table.old 0 (header_of front back) }
 {
-    let p = push(table, 0, 2);
-    let p = push(table, p, b.end as u32);
-    let p = push_four(table, p, 10, f.types, f.imports, f.hooks);
-    push_four(table, p, f.end, b.globals, b.references, b.spans);
+    let words = [
+        2,
+        back.end as u32,
+        10,
+        front.types as u32,
+        front.imports as u32,
+        front.hooks as u32,
+        front.end as u32,
+        back.globals as u32,
+        back.references as u32,
+        back.spans as u32,
+    ];
+    push_all(table, 0, words);
 }
 
 // The whole table; the answer is its length.

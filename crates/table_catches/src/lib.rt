@@ -18,7 +18,7 @@ use region::{at, count_up, fill, least, put, widen};
 use rule_frames::Frame;
 use writing::push;
 
-// The first free position from p on, or len: by path halving, each link on the way becomes the next one's.
+// The first free position from p on, or len: by path halving, each link on the way becomes the next one's. No `for`: it follows links.
 fn find(work: &mut [u32], m: usize, len: usize, p: usize) -> usize
     requires { FindIn work.old m len p }
     ensures { FindOut work.old work.new m len p result }
@@ -60,7 +60,7 @@ fn paint_next(
     next
 }
 
-// Paint the free positions from start up to stop with k.
+// Paint the free positions from start up to stop with k. No `for`: each turn passes what is painted already.
 fn paint(
     table: &mut [u32],
     t: usize,
@@ -97,12 +97,10 @@ fn paint_all(
     requires by_index_2 { (q : ℕ) → q < len + 1 → word_at work.old m q ≡ q }
     ensures { AllOut sheet.now table.old table.new work.old work.new hs h t m len }
 {
-    let mut k = 0;
-    while k < h {
+    for k in 0..h {
         let start = widen(word(sheet, hs + 4 * k));
         let stop = least(widen(word(sheet, hs + 4 * k + 1)), len);
         paint(table, t, work, m, len, k, start, stop);
-        k += 1;
     }
 }
 

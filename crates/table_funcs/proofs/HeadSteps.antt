@@ -29,22 +29,6 @@ use Rattle.table_funcs.specs.FuncWords.{count_words, head_words, Sound}
 use Rattle.table_funcs.proofs.Rules.{clean}
 use Rattle.table_funcs.proofs.Results.{sig_has}
 
--- ── three words ──
-
-module _ (w : List ℕ) (at : ℕ) (h : at + 3 ≤ length w) (a : ℕ) (v : List ℕ) (p : ℕ) (e : v ≡ written w at (a ∷ [])) (k : p ≡ at + 1) where
-  pub three_second : p < length v
-  three_second = omega (arith, join_room w at (a ∷ []) (0 ∷ []) (omega arith) v p e k)
-
-  module _ (b : ℕ) (u : List ℕ) (q : ℕ) (f : u ≡ written v p (b ∷ [])) (l : q ≡ p + 1) where
-    two : u ≡ written w at (a ∷ b ∷ [])
-    two = join_written w at (a ∷ []) (b ∷ []) (omega arith) v p e k f
-
-    pub three_third : q < length u
-    three_third = omega (arith, join_room w at (a ∷ b ∷ []) (0 ∷ []) (omega arith) u q two (omega arith))
-
-    pub three_written : (c : ℕ) {z : List ℕ} → z ≡ written u q (c ∷ []) → z ≡ written w at (a ∷ b ∷ c ∷ [])
-    three_written c i = written_three w at a b c h e k f l i
-
 -- ── signature and counts ──
 
 counts_length : (m : Module) (f : Func) → length (count_words m f) ≡ 3
@@ -70,8 +54,8 @@ module _ (ws w : List ℕ) (o : Opened) (y : Ready ws w o) (c : Frame) (x : Soun
     pub counts_written : (t : List ℕ) (at : ℕ) {z : List ℕ} → z ≡ written t at (s ∷ c.regs ∷ n ∷ []) → z ≡ written t at (count_words (module_in ws) (func_of ws c))
     counts_written t at i = i ∙ ap (written t at) counts_are
 
-pub counts_place : (ws : List ℕ) (c : Frame) → Sound ws c → (at p q r : ℕ) → p ≡ at + 1 → q ≡ p + 1 → r ≡ q + 1 → r ≡ at + length (count_words (module_in ws) (func_of ws c))
-counts_place ws c x at p q r i j k = omega (arith, counts_length (module_in ws) (func_of ws c))
+pub counts_place : (ws : List ℕ) (c : Frame) → Sound ws c → (at r : ℕ) → r ≡ at + 3 → r ≡ at + length (count_words (module_in ws) (func_of ws c))
+counts_place ws c x at r i = omega (arith, counts_length (module_in ws) (func_of ws c))
 
 -- ── a list of value types that stands in the sheet ──
 

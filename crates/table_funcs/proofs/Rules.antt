@@ -9,7 +9,7 @@ use lib.ListN.{length}
 use Rattle.lists.specs.Lists.{concat_map}
 use Rattle.error.specs.declared.What.TheVariants.{Types, Registers}
 use Rattle.error.specs.declared.LoadErrorKind.TheVariants.{BadSignature, OutOfRange, ParamMismatch}
-use Rattle.error.specs.declared.Verdict.TheVariants.{Holds}
+use Rattle.std.specs.Prelude.{Ok}
 use Rattle.error.specs.Answer.{in_module, unless, in_range}
 use Rattle.error.specs.Verdict.{verdict_of}
 use Rattle.law_faults.specs.Empty.{append_empty, map_empty, unless_empty, every}
@@ -47,7 +47,7 @@ pub record Clean (m : Module) (f : Func) : Type 0 where
 
 signed : (m : Module) (t : ℕ) → signature_faults m t ≡ [] → HasSig m t
 unfolding verdict_of
-signed m t e = checked_sig m t {r = Holds} refl (ap verdict_of (sym e))
+signed m t e = checked_sig m t {r = (Ok tt)} refl (ap verdict_of (sym e))
 
 pub clean : (m : Module) (f : Func) → func_faults m f ≡ [] → Clean m f
 unfolding func_faults type_ref_faults

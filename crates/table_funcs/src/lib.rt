@@ -22,7 +22,7 @@ use rule6_registers::canon_at;
 use table_catches::write_catches;
 use table_numbers::{write_names, write_type_refs};
 use table_values::{write_references, write_values};
-use writing::push;
+use writing::{push, push_all};
 
 // Canonical signature, numbers of registers and parameters.
 fn write_counts(
@@ -41,9 +41,7 @@ fn write_counts(
 {
     let sig = canon_type(work, o, c.body.sig);
     let params = param_count(sheet, work, o, c.body.sig);
-    let p = push(table, at, sig.0);
-    let q = push(table, p, c.regs);
-    push(table, q, params)
+    push_all(table, at, [sig.0, c.regs, params])
 }
 
 // Those, then the registers.
@@ -167,10 +165,8 @@ pub fn write_funcs(sheet: &[u8], work: &mut [u32], o: Opened, table: &mut [u32],
     ensures frame { region.Frame (λ k. k < 6 * o.layout.words) work.old work.new }
 {
     let mut p = push(table, at, o.counts.funcs);
-    let mut f = 0;
-    while f < o.counts.funcs {
+    for f in 0..o.counts.funcs {
         p = write_func(sheet, work, o, FuncId(f), table, p);
-        f += 1;
     }
     p
 }

@@ -59,15 +59,16 @@ module _ (b : List ℕ) (o : Opened) (x : Opens (first_words b o.layout.words) o
   hooks_within = list_within hook_of b o.layout.words o.layout.hooks listed
 
   pub binds_start : (w : List ℕ) (first : ℕ) {c : ℕ} → BindingsFit (module_in ws) → ((h : ℕ) → h < 31 → get_or w (first + h) 0 ≡ 0) → c ≡ get_or (words b) o.layout.hooks 0
-      → Binds b o.layout.words (module_in ws).hooks w first c (o.layout.hooks + 1) w
+      → Binds b o.layout.words (module_in ws).hooks w first (c - 0) (o.layout.hooks + 1) w
   binds_start w first {c} f z e =
       let l : value_of [] (many c hook_of ws (o.layout.hooks + 1)) ≡ (module_in ws).hooks = sym (list_value hook_of b o.layout.words o.layout.hooks [] listed e) ∙ value_got [] x.located.hooks in
-      record {
+      let i : c ≡ c - 0 = omega arith in
+      subst (λ k. Binds b o.layout.words (module_in ws).hooks w first k (o.layout.hooks + 1) w) i (record {
         whole = list_whole hook_of b o.layout.words o.layout.hooks listed e;
         fits = ap (all_of binding_fits) l ∙ f.fits;
         frame = frame_refl (Off first (first + 31)) w;
         ahead = λ h k. ap₂ (λ y bs. hook_word h y bs) (z h k) l;
-      }
+      })
 
 module _ (b : List ℕ) (n : ℕ) (hooks : List Hook) (w : List ℕ) (first left q : ℕ) (v : List ℕ) (s : Binds b n hooks w first left q v) where
   pub binds_length : length v ≡ length w
@@ -134,6 +135,13 @@ module _ (b : List ℕ) (n : ℕ) (hooks : List Hook) (w : List ℕ) (first left
 
         later : (k : ℕ) (a : Hook) (xs : List Hook) → hook_word k (cond (eqb a.hook k) (binding_word a) (get_or v (first + k) 0)) xs ≡ hook_word k (get_or v (first + k) 0) (a ∷ xs)
         later k a xs = unfold hook_word in refl
+
+-- of count bindings one more is put
+pub binds_turn : (b : List ℕ) (n : ℕ) (hooks : List Hook) (w : List ℕ) (first count i q : ℕ) (v : List ℕ) → Binds b n hooks w first (count - i) q v → i < count → (v' : List ℕ)
+    → first + 31 ≤ length w → v' ≡ set v (first + get_or (words b) q 0) (bound_word b q) → Binds b n hooks w first (count - (i + 1)) (q + 3) v'
+binds_turn b n hooks w first count i q v s h v' room e =
+    let z : count - i - 1 ≡ count - (i + 1) = omega arith in
+    subst (λ m. Binds b n hooks w first m (q + 3) v') z (binds_next b n hooks w first (count - i) q v s (omega arith) v' room e)
 
 -- ── one binding ──
 

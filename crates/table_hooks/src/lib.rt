@@ -38,12 +38,10 @@ fn put_bindings(sheet: &[u8], o: Opened, table: &mut [u32], first: usize)
     ensures by_index_2 { (h : ℕ) → h < 31 → word_at table.new first h ≡ hook_word h 0 (module_of sheet.now o).hooks }
 {
     let from = o.layout.hooks;
-    let mut left = word(sheet, from);
     let mut p = from + 1;
-    while 0 < left {
+    for _ in 0..word(sheet, from) {
         put_binding(sheet, o, p, table, first);
         p += 3;
-        left -= 1;
     }
 }
 

@@ -11,7 +11,6 @@ use Rattle.open_sheet.specs.declared.Opened.{Opened}
 use Rattle.open_sheet.specs.Ready.{Ready, pos_at}
 use Rattle.open_sheet.specs.ReadyLaws.{count_imports, imports_in, imports_inside, types_inside, type_canon}
 use Rattle.writing.specs.Writing.{written}
-use Rattle.writing.specs.WritingLaws.{join_written}
 use Rattle.table_imports.specs.Sections.{each_of, linked_import, linked_imports, SigsInside}
 use Rattle.table_imports.proofs.RowSteps.{Rows, counted_room, counted_all, rows_room, rows_next}
 
@@ -34,19 +33,17 @@ module _ (ws w : List ℕ) (o : Opened) (x : Ready ws w o) where
     pub host_room : 5 * o.layout.words + i < length w
     host_room = omega (arith, x.room, imports_inside ws w o x, imports_in ws w o x i h)
 
-    module _ {t : ℕ} (e : t ≡ (import_at (module_in ws) i).sig) where
+    module _ {t : ℕ} (g : t ≡ (import_at (module_in ws) i).sig) where
       sig_in : t < length (module_in ws).types
-      sig_in = omega (arith, e, s.inside i (imports_in ws w o x i h))
+      sig_in = omega (arith, g, s.inside i (imports_in ws w o x i h))
 
       pub sig_room : 2 * o.layout.words + t < length w
       sig_room = omega (arith, x.room, types_inside ws w o x, sig_in)
 
-      pub import_written : (u v v' : List ℕ) (at next : ℕ) {r k : ℕ} → at + 2 ≤ length u → r ≡ pos_at w (2 * o.layout.words) t → k ≡ get_or w (5 * o.layout.words + i) 0
-          → v ≡ written u at (r ∷ []) → next ≡ at + 1 → v' ≡ written v next (k ∷ []) → v' ≡ written u at (linked_import ws w o i)
+      pub import_written : (u v : List ℕ) (at : ℕ) {r k : ℕ} → r ≡ pos_at w (2 * o.layout.words) t → k ≡ get_or w (5 * o.layout.words + i) 0
+          → v ≡ written u at (r ∷ k ∷ []) → v ≡ written u at (linked_import ws w o i)
       unfolding linked_import
-      import_written u v v' at next {r} {k} room a b c d f =
-          join_written u at (r ∷ []) (k ∷ []) (omega arith) v next c d f
-          ∙ ap₂ (λ p q. written u at (p ∷ q ∷ [])) (a ∙ type_canon ws w o x t sig_in ∙ ap (canon_type (module_in ws).types) e) b
+      import_written u v at a b e = e ∙ ap₂ (λ p q. written u at (p ∷ q ∷ [])) (a ∙ type_canon ws w o x t sig_in ∙ ap (canon_type (module_in ws).types) g) b
 
   -- ── all ──
 

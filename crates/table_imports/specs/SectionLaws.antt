@@ -11,7 +11,7 @@ use Rattle.lists.specs.Lists.{all_of, concat_map, from}
 use Rattle.lists.specs.ListLaws.{and_second, all_at, all_from, length_from, length_concat_map}
 use Rattle.law_faults.specs.Empty.{append_empty, map_empty, range_empty, every}
 use Rattle.error.specs.declared.What.TheVariants.{Functions, Imports}
-use Rattle.error.specs.declared.Verdict.TheVariants.{Holds}
+use Rattle.std.specs.Prelude.{Ok}
 use Rattle.error.specs.Answer.{in_module}
 use Rattle.error.specs.Verdict.{verdict_of}
 use Rattle.reader.specs.Reader.{encode_list}
@@ -81,7 +81,7 @@ sigs_inside hosts m e =
         let g₂ = ((append_empty _ _).0 g₁).0 in
         let g₃ = ((append_empty _ _).0 g₂).0 in
         let s : signature_faults m a.sig ≡ [] = ((append_empty _ _).0 g₃).0 in
-        (checked_sig m a.sig {r = Holds} refl (ap verdict_of (sym s))).inside
+        (checked_sig m a.sig {r = (Ok tt)} refl (ap verdict_of (sym s))).inside
 
 -- ── canonical numbers ──
 

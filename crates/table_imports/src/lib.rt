@@ -10,7 +10,7 @@ ghost use Rattle.table_imports.specs.Sections.{each_of, linked_import, linked_im
 use error::TypeId;
 use open_sheet::{Opened, canon_type};
 use rule5_imports::import_sig;
-use writing::push;
+use writing::{push, push_all};
 
 // The place of import i in the host list, as it stands in work.
 fn host_entry(work: &[u32], o: Opened, i: u32) -> u32
@@ -39,8 +39,7 @@ fn write_import(
     let stored = import_sig(sheet, work, o, i);
     let sig = canon_type(work, o, stored);
     let host = host_entry(work, o, i);
-    let next = push(table, at, sig.0);
-    push(table, next, host)
+    push_all(table, at, [sig.0, host])
 }
 
 // Imports in order.
@@ -51,11 +50,9 @@ fn write_each_import(sheet: &[u8], work: &[u32], o: Opened, table: &mut [u32], a
     ensures table_after { table.new ≡ written table.old at (each_of (linked_import (sheet_words sheet.now o) work.now o) o.counts.imports) }
     ensures value { result ≡ at + length (each_of (linked_import (sheet_words sheet.now o) work.now o) o.counts.imports) }
 {
-    let mut i = 0;
     let mut p = at;
-    while i < o.counts.imports {
+    for i in 0..o.counts.imports {
         p = write_import(sheet, work, o, i, table, p);
-        i += 1;
     }
     p
 }
@@ -79,12 +76,10 @@ fn write_each_canon(sheet: &[u8], work: &[u32], o: Opened, table: &mut [u32], at
     ensures table_after { table.new ≡ written table.old at (each_of (canon_of (module_of sheet.now o).types) o.counts.types) }
     ensures value { result ≡ at + length (each_of (canon_of (module_of sheet.now o).types) o.counts.types) }
 {
-    let mut i = 0;
     let mut p = at;
-    while i < o.counts.types {
+    for i in 0..o.counts.types {
         let t = canon_type(work, o, TypeId(i));
         p = push(table, p, t.0);
-        i += 1;
     }
     p
 }

@@ -9,18 +9,14 @@ use Rattle.lists.specs.ListLaws.{length_concat_map}
 use Rattle.sheet.specs.Encode.{encode_pair}
 use Rattle.region.specs.Region.{Frame}
 use Rattle.writing.specs.Writing.{written, words_of, Writes}
-use Rattle.writing.specs.WritingLaws.{written_then, written_length, writes_start, writes_next, writes_end, writes_length, join_written}
+use Rattle.writing.specs.WritingLaws.{written_then, written_length, writes_start, writes_next, writes_end, writes_length}
 use Rattle.table.specs.Records.{by_name}
 use Rattle.table_name_sort.specs.Merge.{pairs_at}
 use Rattle.table_name_sort.specs.PairLaws.{pairs_length, pairs_at_lem}
 use Rattle.table_names.specs.Names.{pair_words}
 use Rattle.table_name_sort.specs.Steps.{Room, Sorted}
 
--- ── one pair ──
-
-pub pushed_pair : (w v u : List ℕ) (at x y p : ℕ) → at + 1 < length w → v ≡ written w at (x ∷ []) → p ≡ at + 1 → u ≡ written v p (y ∷ []) → u ≡ written w at (encode_pair (x, y))
-unfolding encode_pair
-pushed_pair w v u at x y p h e i f = join_written w at (x ∷ []) (y ∷ []) (omega arith) v p e i f
+-- ── the count ──
 
 -- the slice keeps its length
 pub pushed_one : (w v : List ℕ) (at x : ℕ) → at < length w → v ≡ written w at (x ∷ []) → length v ≡ length w

@@ -21,15 +21,14 @@ use error::StrId;
 use open_sheet::{Opened, canon_string};
 use region::{least, put};
 use table_name_sort::sort_names;
-use writing::push;
+use writing::{push, push_all};
 
 fn push_pair(work: &[u32], a: usize, table: &mut [u32], at: usize) -> usize
     requires { (a + 1 < length work.now) × (at + 1 < length table.old) }
     ensures table_after { table.new ≡ written table.old at (encode_pair (get_or work.now a 0, get_or work.now (a + 1) 0)) }
     ensures value { result ≡ at + 2 }
 {
-    let p = push(table, at, work[a]);
-    push(table, p, work[a + 1])
+    push_all(table, at, [work[a], work[a + 1]])
 }
 
 fn push_pairs(work: &[u32], a: usize, n: usize, table: &mut [u32], at: usize) -> usize
@@ -39,10 +38,8 @@ fn push_pairs(work: &[u32], a: usize, n: usize, table: &mut [u32], at: usize) ->
     ensures value { result ≡ at + 2 * n }
 {
     let mut p = at;
-    let mut i = 0;
-    while i < n {
+    for i in 0..n {
         p = push_pair(work, a + 2 * i, table, p);
-        i += 1;
     }
     p
 }
@@ -99,17 +96,9 @@ fn gather_fields(sheet: &[u8], work: &mut [u32], o: Opened, at: usize, count: us
     ensures { Gathered work.old work.new (6 * o.layout.words) (slot_pairs (module_of sheet.now o) (named_fields (value_of [] (list_of field_of (sheet_words sheet.now o) at)))) }
 {
     let to = 6 * o.layout.words;
-    let mut slot = 0;
-    while slot < count {
-        put_name(
-            sheet,
-            work,
-            o,
-            at + 1 + 2 * slot,
-            to + 2 * slot,
-            slot as u32,
-        );
-        slot += 1;
+    for slot in 0..count {
+        let p = at + 1 + 2 * slot;
+        put_name(sheet, work, o, p, to + 2 * slot, slot as u32);
     }
 }
 
@@ -122,11 +111,9 @@ fn gather_methods(sheet: &[u8], work: &mut [u32], o: Opened, at: usize, count: u
     ensures { Gathered work.old work.new (6 * o.layout.words) (method_pairs (module_of sheet.now o) (value_of [] (list_of method_of (sheet_words sheet.now o) at))) }
 {
     let to = 6 * o.layout.words;
-    let mut i = 0;
-    while i < count {
+    for i in 0..count {
         let p = at + 1 + 2 * i;
         put_name(sheet, work, o, p, to + 2 * i, word(sheet, p + 1));
-        i += 1;
     }
 }
 

@@ -1,7 +1,7 @@
 -- Canonical numbers of strings and of types, written after their count.
-use Prim.Native.Nat.{ℕ, suc, ◌+◌, ◌*◌, ◌≤◌, ◌<◌}
+use Prim.Native.Nat.{ℕ, suc, ◌+◌, ◌*◌, ◌<◌}
 use mathlib.Core.Path.{◌≡◌, refl, sym, ap, ◌∙◌}
-use mathlib.Core.List.{List, [], ◌∷◌, map}
+use mathlib.Core.List.{List, []}
 use native.Mathlib.Omega.{arith}
 use lib.ListN.{length, get_or, take, length-take}
 use Rattle.lists.specs.Lists.{concat_map}
@@ -26,8 +26,6 @@ use Rattle.open_sheet.specs.declared.Opened.{Opened}
 use Rattle.open_sheet.specs.Ready.{Ready, pos_at}
 use Rattle.open_sheet.specs.ReadyLaws.{strings_inside, types_inside, string_canon, type_canon}
 use Rattle.law_judging.specs.Judging.{list_faults}
-use Rattle.writing.specs.Writing.{written}
-use Rattle.writing.specs.CountedLaws.{Counted, counted_start, counted_kept, counted_room, counted_next, counted_end, counted_place}
 
 -- ── a list of numbers, each a word ──
 
@@ -98,44 +96,8 @@ module _ (b w : List ℕ) (o : Opened) (x : Ready (first_words b o.layout.words)
         e ∙ type_canon (first_words b o.layout.words) w o x c ref_known
         ∙ ap (canon_type (module_in (first_words b o.layout.words)).types) (number_word b o.layout.words at h i l k)
 
--- ── the loop ──
-
--- after the count what f makes of the first i numbers
-unfoldable pub Numbers : (ℕ → ℕ) → List ℕ → ℕ → ℕ → List ℕ → ℕ → ℕ → List ℕ → ℕ → Type 0
-Numbers f ws from n u s i v p = Counted f (value_of [] (list_of word ws from)) n u s i v p
-
-pub numbers_start : (f : ℕ → ℕ) (ws : List ℕ) (from n : ℕ) (u : List ℕ) (s : ℕ) → Numbers f ws from n u s 0 u s
-unfolding Numbers
-numbers_start f ws from n u s = counted_start f (value_of [] (list_of word ws from)) n u s
+-- ── which numbers there are ──
 
 pub number_below : (b : List ℕ) (m from : ℕ) (g : Whole (list_of word (first_words b m) from)) (n : ℕ) (c : n ≡ get_or (words b) from 0) (i : ℕ) → i < n
     → i < length (value_of [] (list_of word (first_words b m) from))
 number_below b m from g n c i l = omega (arith, numbers_count b m from g c)
-
-module _ (b : List ℕ) (m from : ℕ) (g : Whole (list_of word (first_words b m) from)) (n : ℕ) (c : n ≡ get_or (words b) from 0)
-    (w : List ℕ) (at : ℕ) (h : at + 1 + length (value_of [] (list_of word (first_words b m) from)) ≤ length w) where
-  numbers_room : at + 1 + n ≤ length w
-  numbers_room = omega (arith, numbers_count b m from g c)
-
-  module _ (f : ℕ → ℕ) (u : List ℕ) (s : ℕ) (e : u ≡ written w at (n ∷ [])) (k : s ≡ at + 1) (i : ℕ) (v : List ℕ) (p : ℕ) (x : Numbers f (first_words b m) from n u s i v p) where
-    pub numbers_kept : length v ≡ length w
-    unfolding Numbers
-    numbers_kept = counted_kept f (value_of [] (list_of word (first_words b m) from)) w at n numbers_room (numbers_count b m from g c) u s e k i v p x
-
-    pub number_place : i < n → p < length v
-    unfolding Numbers
-    number_place l = counted_room f (value_of [] (list_of word (first_words b m) from)) w at n numbers_room (numbers_count b m from g c) u s e k i v p x 0 l
-
-    pub numbers_next : {y p' : ℕ} {v' : List ℕ} → i < n → y ≡ f (get_or (value_of [] (list_of word (first_words b m) from)) i 0) → v' ≡ written v p (y ∷ []) → p' ≡ p + 1
-        → Numbers f (first_words b m) from n u s (i + 1) v' p'
-    unfolding Numbers
-    numbers_next l z a d =
-        counted_next f (value_of [] (list_of word (first_words b m) from)) w at n numbers_room (numbers_count b m from g c) u s e k i v p x 0 l z a d
-
-    pub numbers_end : n ≤ i → v ≡ written w at (encode_words (map f (value_of [] (list_of word (first_words b m) from))))
-    unfolding Numbers
-    numbers_end l = counted_end f (value_of [] (list_of word (first_words b m) from)) w at n numbers_room (numbers_count b m from g c) u s e k i v p x l
-
-    pub numbers_after : n ≤ i → p ≡ at + length (encode_words (map f (value_of [] (list_of word (first_words b m) from))))
-    unfolding Numbers
-    numbers_after l = counted_place f (value_of [] (list_of word (first_words b m) from)) w at n numbers_room (numbers_count b m from g c) u s e k i v p x l

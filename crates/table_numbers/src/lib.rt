@@ -16,7 +16,7 @@ ghost use Rattle.writing.specs.Writing.{written};
 use blocks::word;
 use error::{StrId, TypeId};
 use open_sheet::{Opened, canon_string, canon_type};
-use writing::push;
+use writing::write_list;
 
 // The canonical number of name i.
 fn name_at(sheet: &[u8], work: &[u32], o: Opened, names_at: usize, i: u32) -> u32
@@ -48,14 +48,7 @@ pub fn write_names(
     ensures value { result ≡ at + length (encode_words (map (canon_string (module_of sheet.now o).strings) (value_of [] (list_of Reader.word (sheet_words sheet.now o) names_at)))) }
 {
     let count = word(sheet, names_at);
-    let mut p = push(table, at, count);
-    let mut i = 0;
-    while i < count {
-        let c = name_at(sheet, work, o, names_at, i);
-        p = push(table, p, c);
-        i += 1;
-    }
-    p
+    write_list(table, at, count, |i| name_at(sheet, work, o, names_at, i))
 }
 
 // The canonical number of type ref i.
@@ -88,12 +81,10 @@ pub fn write_type_refs(
     ensures value { result ≡ at + length (encode_words (map (canon_type (module_of sheet.now o).types) (value_of [] (list_of Reader.word (sheet_words sheet.now o) refs_at)))) }
 {
     let count = word(sheet, refs_at);
-    let mut p = push(table, at, count);
-    let mut i = 0;
-    while i < count {
-        let c = type_ref_at(sheet, work, o, refs_at, i);
-        p = push(table, p, c);
-        i += 1;
-    }
-    p
+    write_list(
+        table,
+        at,
+        count,
+        |i| type_ref_at(sheet, work, o, refs_at, i),
+    )
 }

@@ -2,7 +2,7 @@
 use mathlib.Core.Path.{◌≡◌, refl, sym, ap, ap₂, subst, ◌∙◌}
 use mathlib.Core.Bool.{Bool, true, false, cond}
 use mathlib.Core.List.{List, [], ◌∷◌}
-use mathlib.Core.Option.{Option, none, some}
+use Rattle.std.specs.Prelude.{Option, None, Some}
 use Prim.Native.Nat.{ℕ, zero, suc, ◌+◌, ◌-◌, ◌*◌, ◌≤◌, ◌<◌}
 use native.Mathlib.Omega.{arith}
 use native.Mathlib.Numerals.{add-one}
@@ -154,24 +154,24 @@ module _ (d : TypeDef) where
   struct_own e = go (struct_of d) (struct_entry_lem d ∙ e)
     where
       go : (s : Option Struct) → is_struct_entry (entry_of s) ≡ true → in_list (parent_of s) (entry_of s) ≡ true
-      go none h = unfold entry_of in let z : ◌≡◌ {A = ℕ} 0 1 = cc in absurd (omega arith)
-      go (some s) h = unfold entry_of parent_of in plus_own s.parent+
+      go None h = unfold entry_of in let z : ◌≡◌ {A = ℕ} 0 1 = cc in absurd (omega arith)
+      go (Some s) h = unfold entry_of parent_of in plus_own s.parent+
 
   pub struct_only : (k : ℕ) → (k ≡ parent_word d → ⊥) → in_list k (entry d) ≡ false
   unfolding parent_word entry
   struct_only k h = go (struct_of d) h
     where
       go : (s : Option Struct) → (k ≡ parent_of s → ⊥) → in_list k (entry_of s) ≡ false
-      go none h = unfold entry_of in other_none k
-      go (some s) h = unfold entry_of parent_of in plus_only k s.parent+ h
+      go None h = unfold entry_of in other_none k
+      go (Some s) h = unfold entry_of parent_of in plus_only k s.parent+ h
 
   word_sub : (p : ℕ) → parent_word d ≡ suc p → entry d ≡ sub p
   unfolding parent_word entry
   word_sub p e = go (struct_of d) e
     where
       go : (s : Option Struct) → parent_of s ≡ suc p → entry_of s ≡ sub p
-      go none e = unfold parent_of in let z : 0 ≡ suc p = e in absurd (omega arith)
-      go (some s) e = unfold entry_of parent_of struct_entry in ap struct_entry e
+      go None e = unfold parent_of in let z : 0 ≡ suc p = e in absurd (omega arith)
+      go (Some s) e = unfold entry_of parent_of struct_entry in ap struct_entry e
 
 -- the list of a parent is one of those linked
 pub parent_few : (most : ℕ) (m : Module) → parents_faults most m ≡ [] → (t : ℕ) → parent_word (type_at m.types t) ≤ length m.types
@@ -275,29 +275,35 @@ module _ (ws w : List ℕ) (o : Opened) (x : Ready ws w o) where
   counted = count_types ws o x.opens
 
   pub links_start : (v : List ℕ) → Frame (Off (4 * o.layout.words) (4 * o.layout.words + (o.counts.types + 1))) w v
-      → ((k : ℕ) → k < o.counts.types + 1 → word_at v (4 * o.layout.words) k ≡ o.counts.types) → Links ws o v v o.counts.types
-  links_start v f g = record {
-    ready = ready_below ws w o x v (record { len = f.len; same = λ k h. f.same k (λ a b. omega arith) });
-    linking = subst (λ t. Linking (module_in ws).types o.layout.words t v) (sym counted)
-        (linking_start (module_in ws).types o.layout.words v (λ k h. g k (omega (arith, counted)) ∙ counted));
-    frame = frame_refl (λ k. Off (4 * o.layout.words) (5 * o.layout.words) k × (k < 6 * o.layout.words)) v;
-    low = omega arith;
-  }
+      → ((k : ℕ) → k < o.counts.types + 1 → word_at v (4 * o.layout.words) k ≡ o.counts.types) → Links ws o v v (o.counts.types - 0)
+  links_start v f g =
+      let e : length (module_in ws).types ≡ o.counts.types - 0 = omega (arith, counted) in
+      record {
+        ready = ready_below ws w o x v (record { len = f.len; same = λ k h. f.same k (λ a b. omega arith) });
+        linking = subst (λ t. Linking (module_in ws).types o.layout.words t v) e
+            (linking_start (module_in ws).types o.layout.words v (λ k h. g k (omega (arith, counted)) ∙ counted));
+        frame = frame_refl (λ k. Off (4 * o.layout.words) (5 * o.layout.words) k × (k < 6 * o.layout.words)) v;
+        low = omega arith;
+      }
 
-  pub links_next : (w v u : List ℕ) (t : ℕ) → Links ws o w v t → 0 < t → Linking (module_in ws).types o.layout.words (t - 1) u
-      → Frame (λ k. Off (4 * o.layout.words) (5 * o.layout.words) k × (k < 6 * o.layout.words)) v u → Links ws o w u (t - 1)
-  links_next w v u t l h y f = record {
-    ready = ready_below ws v o l.ready u (record { len = f.len; same = λ k b. f.same k ((λ a c. omega arith), omega arith) });
-    linking = y;
-    frame = frame_then P P P w v u (λ k p. p) (λ k p. p) l.frame f;
-    low = omega (arith, l.low);
-  }
-    where
-      P : ℕ → Type 0
-      P k = Off (4 * o.layout.words) (5 * o.layout.words) k × (k < 6 * o.layout.words)
+  -- of n types the last i are linked
+  module _ (z v : List ℕ) (n i : ℕ) (l : Links ws o z v (n - i)) (h : i < n) where
+    pub links_next : (u : List ℕ) → Linking (module_in ws).types o.layout.words (n - 1 - i) u
+        → Frame (λ k. Off (4 * o.layout.words) (5 * o.layout.words) k × (k < 6 * o.layout.words)) v u → Links ws o z u (n - (i + 1))
+    links_next u y f =
+        let e : n - 1 - i ≡ n - (i + 1) = omega arith in
+        record {
+          ready = ready_below ws v o l.ready u (record { len = f.len; same = λ k b. f.same k ((λ a c. omega arith), omega arith) });
+          linking = subst (λ t. Linking (module_in ws).types o.layout.words t u) e y;
+          frame = frame_then P P P z v u (λ k p. p) (λ k p. p) l.frame f;
+          low = omega (arith, l.low);
+        }
+      where
+        P : ℕ → Type 0
+        P k = Off (4 * o.layout.words) (5 * o.layout.words) k × (k < 6 * o.layout.words)
 
-  pub links_down : (w v : List ℕ) (t : ℕ) → Links ws o w v t → 0 < t → Linking (module_in ws).types o.layout.words (t - 1 + 1) v
-  links_down w v t l h = let e : t ≡ t - 1 + 1 = omega arith in subst (λ i. Linking (module_in ws).types o.layout.words i v) e l.linking
+    pub links_down : Linking (module_in ws).types o.layout.words (n - 1 - i + 1) v
+    links_down = let e : n - i ≡ n - 1 - i + 1 = omega arith in subst (λ t. Linking (module_in ws).types o.layout.words t v) e l.linking
 
   pub links_length : (z v : List ℕ) (t : ℕ) → Frame (Off (4 * o.layout.words) (4 * o.layout.words + (o.counts.types + 1))) w z → Links ws o z v t → length v ≡ length w
   links_length z v t f l = l.frame.len ∙ f.len

@@ -16,7 +16,7 @@ use open_sheet::Opened;
 use region::{copy_word, fill, put, widen};
 use rule3_parents::{is_struct, parent_of};
 use sheet::most_on_chain;
-use writing::push;
+use writing::push_all;
 
 // A struct becomes the first of its parent's children, a root the first of the roots.
 fn link(sheet: &[u8], work: &mut [u32], o: Opened, t: TypeId)
@@ -41,11 +41,10 @@ fn link_all(sheet: &[u8], work: &mut [u32], o: Opened)
     ensures linked { Linked (module_of sheet.now o).types o work.new }
     ensures frame { Frame (λ k. Off (4 * o.layout.words) (5 * o.layout.words) k × (k < 6 * o.layout.words)) work.old work.new }
 {
-    let mut t = o.counts.types;
-    fill(work, 4 * o.layout.words, t as usize + 1, t as usize);
-    while 0 < t {
-        t -= 1;
-        link(sheet, work, o, TypeId(t));
+    let n = o.counts.types;
+    fill(work, 4 * o.layout.words, n as usize + 1, n as usize);
+    for i in 0..n {
+        link(sheet, work, o, TypeId(n - 1 - i));
     }
 }
 
@@ -55,9 +54,7 @@ fn store_span(table: &mut [u32], at: usize, pre: usize, post: usize, len: usize)
     requires pre_bound { (pre < 4294967296) × ((post < 4294967296) × (len < 4294967296)) }
     ensures { table.new ≡ written table.old at (pre ∷ post ∷ len ∷ []) }
 {
-    let p = push(table, at, pre as u32);
-    let p = push(table, p, post as u32);
-    push(table, p, len as u32);
+    push_all(table, at, [pre as u32, post as u32, len as u32]);
 }
 
 // Every type is no struct until the walk enters it.
@@ -65,15 +62,13 @@ fn blank_spans(table: &mut [u32], at: usize, n: usize)
     requires { at + 1 + 3 * n ≤ length table.old }
     ensures { Blank at n table.old table.new }
 {
-    let mut t = 0;
-    while t < n {
+    for t in 0..n {
         store_span(table, at + 1 + 3 * t, 4294967295, 0, 0);
-        t += 1;
     }
 }
 
 // Number the structs of a list and those below them, `left` of the `most` on a chain; the answer is the clock after them.
-// The sheet is lent for the contract.
+// The sheet is lent for the contract. No `for`: it follows the links to the siblings.
 fn visit(
     sheet: &[u8],
     work: &[u32],

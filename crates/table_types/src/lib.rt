@@ -104,10 +104,8 @@ pub fn write_types(sheet: &[u8], work: &mut [u32], o: Opened, table: &mut [u32],
     ensures frame { Frame (λ k. k < 6 * o.layout.words) work.old work.new }
 {
     let mut p = push(table, at, o.counts.types);
-    let mut i = 0;
-    while i < o.counts.types {
+    for i in 0..o.counts.types {
         p = write_type(sheet, work, o, TypeId(i), table, p);
-        i += 1;
     }
     p
 }

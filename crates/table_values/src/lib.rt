@@ -16,7 +16,7 @@ ghost use Rattle.table_values.specs.Values.{values_at, Values, Present, place_wo
 use blocks::word;
 use open_sheet::Opened;
 use rule6_registers::canon_at;
-use writing::push;
+use writing::{push, write_list};
 
 // The count, then each value type's canonical word.
 pub fn write_values(
@@ -35,21 +35,16 @@ pub fn write_values(
     ensures table_after { table.new ≡ written table.old at (encode_words (map (canon_word (module_of sheet.now o).types) (values_at (sheet_words sheet.now o) first stride n))) }
     ensures value { result ≡ at + length (encode_words (map (canon_word (module_of sheet.now o).types) (values_at (sheet_words sheet.now o) first stride n))) }
 {
-    let mut p = push(table, at, n);
-    let mut i = 0;
-    while i < n {
-        let w = canon_at(sheet, work, o, first + stride * i as usize);
-        p = push(table, p, w);
-        i += 1;
-    }
-    p
+    write_list(table, at, n, |i| {
+        canon_at(sheet, work, o, first + stride * i as usize)
+    })
 }
 
 // A place, or the greatest that is listed.
 fn capped(most: u32, i: u32) -> u32
     ensures { result ≡ min most i }
 {
-    if most < i { most } else { i }
+    most.min(i)
 }
 
 // Place i where a reference stands: str, dyn and all that names a type.
@@ -90,18 +85,9 @@ pub fn write_references(
     ensures value { result ≡ at + length (encode_words (map (min most) (references (values_at (first_words sheet.now n_words) first stride n)))) }
 {
     let mut p = at + 1;
-    let mut i = 0;
-    while i < n {
-        p = write_place(
-            sheet,
-            n_words,
-            first + stride * i as usize,
-            most,
-            i,
-            table,
-            p,
-        );
-        i += 1;
+    for i in 0..n {
+        let q = first + stride * i as usize;
+        p = write_place(sheet, n_words, q, most, i, table, p);
     }
     let count = (p - at - 1) as u32;
     push(table, at, count);

@@ -24,7 +24,7 @@ fn report_files(rt: &(impl Files + Print), sheet: &[u8], hosts: &[u8]) -> io::Re
     report(rt, &bytes[..n], &list[..m])
 }
 
-// False past the last argument.
+// False past the last argument. The first byte of a name that is too long counts too, so the whole buffer is at hand here.
 fn report_argument(rt: &(impl Env + Files + Print), i: usize) -> io::Result<bool> {
     let mut name = [0u8; 4096];
     let Some(n) = argument(rt, i, &mut name) else {

@@ -27,8 +27,8 @@ returns-then-n-k c = search (rules, framing, not-true, not-false)
 pub returns-then-k-n : goal.returns-then-k-n
 returns-then-k-n c = search (rules, framing, not-true, not-false)
 
-pub returns-then-is_zero_from : goal.returns-then-is_zero_from
-returns-then-is_zero_from c = search (rules, framing, not-true, not-false)
+pub returns-then-not-is_zero_from : goal.returns-then-not-is_zero_from
+returns-then-not-is_zero_from c = search (rules, framing, not-true, not-false)
 
-pub returns-else-is_zero_from : goal.returns-else-is_zero_from
-returns-else-is_zero_from c = search (rules, framing, not-true, not-false)
+pub returns : goal.returns
+returns c = search (rules, framing, not-true, not-false)

@@ -2,8 +2,8 @@ use borrow.Author.Rules.{rules}
 use Rattle.error.specs.VerdictLaws.{ranges}
 use Rattle.error.proofs.in_range.Goals as goal
 
-pub returns-then-i-n : goal.returns-then-i-n
-returns-then-i-n c = search (rules, ranges)
+pub returns-then-n-i : goal.returns-then-n-i
+returns-then-n-i c = search (rules, ranges)
 
 pub returns : goal.returns
 returns c = search (rules, ranges)

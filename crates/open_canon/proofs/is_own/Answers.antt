@@ -1,6 +1,5 @@
-use mathlib.Core.List.{List, []}
-use mathlib.Core.Bool.{Bool, true, false}
 use mathlib.Core.List.{List, [], ◌∷◌}
+use mathlib.Core.Bool.{Bool, true, false}
 use mathlib.Core.Path.{◌≡◌, refl, sym}
 use Prim.Native.Nat.{ℕ, ◌+◌}
 use native.Mathlib.Omega.{arith}
@@ -20,21 +19,22 @@ own-none false = refl
 own-some : (m : Bool) (a : List ℕ) (x : ℕ) (l : List ℕ) → m ≡ true → a ≡ x ∷ l → own_by m a ≡ eqb x 1
 own-some m a x l e q = rw (e, q) refl
 
-pub returns-then-not-marked : goal.returns-then-not-marked
-returns-then-not-marked c = rw c.if-not-marked.true refl
-
 pub returns-then-at-a : goal.returns-then-at-a
 returns-then-at-a c =
-    rw (item_none (first_words c.args.sheet.now c.args.words) c.args.work.now c.args.n c.args.edges_at c.requires.edges c.args.v c.requires.v_lt_n (omega arith)) (sym (own-none c.args.marked))
-
-pub word-requires : goal.word-requires
-word-requires c = tt
+    rw (item_none (first_words c.args.items.bytes.now c.args.items.words) c.args.work.now c.args.items.n c.args.items.edges_at
+    c.requires.edges c.args.v c.requires.v_lt_n (omega arith)) (sym (own-none c.args.marked))
 
 pub returns : goal.returns
 returns c =
     let a = c.at-a in
-    let b = first_words c.args.sheet.now c.args.words in
-    let e = ends b c.args.work.now c.args.n c.args.edges_at c.requires.edges c.args.v c.requires.v_lt_n in
-    rw (c.word.ensures, ← first_words_at c.args.sheet.now c.args.words a.result (omega (arith, e, length_first_words c.args.sheet.now c.args.words)), a.ensures) (sym (own-some c.args.marked (item b (part c.args.edges_at (c.args.n + 1) c.args.work.now) c.args.v) _ _
+    let b = (first_words c.args.items.bytes.now c.args.items.words) in
+    let e = ends b c.args.work.now c.args.items.n c.args.items.edges_at c.requires.edges c.args.v c.requires.v_lt_n in
+    rw (
+      c.word.ensures,
+      ← first_words_at c.args.items.bytes.now c.args.items.words a.result
+          (omega (arith, e, length_first_words c.args.items.bytes.now c.args.items.words)),
+      a.ensures,
+    )
+    (sym (own-some c.args.marked (item b (part c.args.items.edges_at (c.args.items.n + 1) c.args.work.now) c.args.v) _ _
     (c.if-not-marked.false)
-    (item_some b c.args.work.now c.args.n c.args.edges_at c.requires.edges c.args.v c.requires.v_lt_n (omega arith))))
+    (item_some b c.args.work.now c.args.items.n c.args.items.edges_at c.requires.edges c.args.v c.requires.v_lt_n (omega arith))))

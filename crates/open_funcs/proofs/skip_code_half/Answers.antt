@@ -1,15 +1,11 @@
 use borrow.Author.Rules.{rules}
-use Rattle.open_funcs.proofs.FuncSteps.{code_next, code_stop_1, code_stop_2, code_stop_3}
+use Rattle.open_funcs.proofs.FuncSteps.{codes}
 use Rattle.open_funcs.proofs.skip_code_half.Goals as goal
 
-pub returns-in_default : goal.returns-in_default
-returns-in_default c = search (rules, code_next, code_stop_1, code_stop_2, code_stop_3)
-
-pub returns-in_default-skip_records : goal.returns-in_default-skip_records
-returns-in_default-skip_records c = search (rules, code_next, code_stop_1, code_stop_2, code_stop_3)
-
-pub returns-in_default-skip_records-2 : goal.returns-in_default-skip_records-2
-returns-in_default-skip_records-2 c = search (rules, code_next, code_stop_1, code_stop_2, code_stop_3)
+pub returns-in_err-tables : goal.returns-in_err-tables
+returns-in_err-tables c =
+    rw c.from_residual-in_err-tables.ensures
+    (search (rules, codes, c.in_ok-type_refs.was, c.in_ok-handlers.was, c.in_err-tables.was))
 
 pub returns : goal.returns
-returns c = search (rules, code_next, code_stop_1, code_stop_2, code_stop_3)
+returns c = search (rules, codes, c.in_ok-type_refs.was, c.in_ok-handlers.was, c.in_ok-tables.was)

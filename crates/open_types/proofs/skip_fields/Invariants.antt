@@ -1,10 +1,7 @@
 use Rattle.blocks.specs.Frame.{first_words}
-use Rattle.reader.proofs.LoopLaws.{Skips}
+use Rattle.reader.specs.Step.{step_of}
 use Rattle.sheet.specs.Decode.{field_of}
 use Rattle.open_types.proofs.skip_fields.Given as goal
 
-abbrev pub invariant-loop-left : goal.invariant-loop-left
-invariant-loop-left l = Skips field_of (first_words l.sheet l.n) l.at l.left l.p
-
-abbrev pub decreases-loop-left : goal.decreases-loop-left
-decreases-loop-left l = l.left
+abbrev pub ghost-skip_list : goal.ghost-skip_list
+ghost-skip_list a = λ p. step_of (field_of (first_words a.bytes.now a.n) p)

@@ -2,6 +2,9 @@ use borrow.Author.Rules.{rules}
 use Rattle.open_types.proofs.TypeSteps.{type_func, type_struct, type_array, type_map, type_cell, type_iter, type_coroutine, type_unlisted, type_past}
 use Rattle.open_types.proofs.skip_type.Goals as goal
 
+pub returns-then-n-at : goal.returns-then-n-at
+returns-then-n-at c = search (rules, type_func, type_struct, type_array, type_map, type_cell, type_iter, type_coroutine, type_unlisted, type_past)
+
 pub returns-in-0 : goal.returns-in-0
 returns-in-0 c = search (rules, type_func, type_struct, type_array, type_map, type_cell, type_iter, type_coroutine, type_unlisted, type_past)
 
@@ -25,6 +28,3 @@ returns-in-6 c = search (rules, type_func, type_struct, type_array, type_map, ty
 
 pub returns-in_default : goal.returns-in_default
 returns-in_default c = search (rules, type_func, type_struct, type_array, type_map, type_cell, type_iter, type_coroutine, type_unlisted, type_past)
-
-pub returns-else-at-n : goal.returns-else-at-n
-returns-else-at-n c = search (rules, type_func, type_struct, type_array, type_map, type_cell, type_iter, type_coroutine, type_unlisted, type_past)

@@ -1,12 +1,21 @@
 use borrow.Author.Rules.{rules}
-use Rattle.query.proofs.LengthSteps.{lengths}
+use Rattle.query.proofs.SizeSteps.{measuring}
 use Rattle.query.proofs.chain_length.Goals as goal
 
-pub known_length-requires : goal.known_length-requires
-known_length-requires c = search (rules, lengths)
+pub returns-in_err-own : goal.returns-in_err-own
+returns-in_err-own c = search (rules, measuring)
 
-pub returns-then-is_linked : goal.returns-then-is_linked
-returns-then-is_linked c = search (rules, lengths)
+pub overflow_add-result : goal.overflow_add-result
+overflow_add-result c = search (rules, measuring, c.in_ok-own.was)
 
-pub returns : goal.returns
-returns c = search (rules, lengths)
+pub offset_bounds-table-own : goal.offset_bounds-table-own
+offset_bounds-table-own c = search (rules, measuring, c.in_ok-own.was)
+
+pub bounds-table-own : goal.bounds-table-own
+bounds-table-own c = search (rules, measuring, c.in_ok-own.was)
+
+pub returns-in-Some : goal.returns-in-Some
+returns-in-Some c = search (rules, measuring, c.in_ok-own.was)
+
+pub returns-in-None : goal.returns-in-None
+returns-in-None c = search (rules, measuring, c.in_ok-own.was)

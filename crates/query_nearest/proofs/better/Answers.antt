@@ -1,39 +1,18 @@
-use borrow.Author.Rules.{rules}
-use Rattle.query_nearest.proofs.ScanSteps.{bettering}
+use Rattle.query_nearest.proofs.ScanSteps.{no_wider, passed, is_wider}
+use Rattle.query_nearest.proofs.better.Goals.{else-holds-via-then-holds+else-post-pre, else-holds-via-else-holds}
 use Rattle.query_nearest.proofs.better.Goals as goal
 
-pub overflow_add-own : goal.overflow_add-own
-overflow_add-own c = search (rules, bettering)
-
-pub overflow_mul-own : goal.overflow_mul-own
-overflow_mul-own c = search (rules, bettering)
-
-pub overflow_add-own-2 : goal.overflow_add-own-2
-overflow_add-own-2 c = search (rules, bettering)
-
-pub word_at-pre-requires : goal.word_at-pre-requires
-word_at-pre-requires c = search (rules, bettering)
-
-pub overflow_add-own-3 : goal.overflow_add-own-3
-overflow_add-own-3 c = search (rules, bettering)
-
-pub word_at-post-requires : goal.word_at-post-requires
-word_at-post-requires c = search (rules, bettering)
-
-pub holds-requires : goal.holds-requires
-holds-requires c = search (rules, bettering)
-
-pub overflow_sub-post : goal.overflow_sub-post
-overflow_sub-post c = search (rules, bettering)
-
-pub overflow_sub-result : goal.overflow_sub-result
-overflow_sub-result c = search (rules, bettering)
-
 pub returns-then-post-pre : goal.returns-then-post-pre
-returns-then-post-pre c = search (rules, bettering)
+returns-then-post-pre c =
+    no_wider _ _ _ _ c.requires.a_bound c.requires.scanned c.requires.spans c.word_at-pre.ensures.value c.word_at-post.ensures.value
+    c.holds.ensures c.if-holds.true c.if-post-pre.true
 
-pub returns-else-post-pre : goal.returns-else-post-pre
-returns-else-post-pre c = search (rules, bettering)
-
-pub returns-else-holds : goal.returns-else-holds
-returns-else-holds c = search (rules, bettering)
+pub returns : goal.returns
+returns c = elim c.else-holds.branch [
+  | else-holds-via-then-holds+else-post-pre w ↦
+      is_wider _ _ _ _ c.requires.a_bound c.requires.scanned c.requires.spans c.word_at-pre.ensures.value c.word_at-post.ensures.value
+      c.holds.ensures w.if-holds.true c.word_at-post.ensures.upper_bound w.if-post-pre.false
+  | else-holds-via-else-holds w ↦
+      passed _ _ _ _ c.requires.a_bound c.requires.scanned c.requires.spans c.word_at-pre.ensures.value c.word_at-post.ensures.value
+      c.holds.ensures w.if-holds.false
+]

@@ -5,8 +5,8 @@ use Rattle.reader.proofs.skip_rest.Goals as goal
 pub returns-then-is_done : goal.returns-then-is_done
 returns-then-is_done c = search (rules, resting)
 
-pub returns-then-length-eq0 : goal.returns-then-length-eq0
-returns-then-length-eq0 c = search (rules, resting)
+pub returns-else-is_done : goal.returns-else-is_done
+returns-else-is_done c = search (rules, resting)
 
 pub returns-then-n-at : goal.returns-then-n-at
 returns-then-n-at c = search (rules, resting)

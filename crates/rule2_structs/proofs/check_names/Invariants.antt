@@ -1,10 +1,8 @@
-use Rattle.blocks.specs.Frame.{first_words}
-use Rattle.open_layout.specs.Opened.{module_in}
-use Rattle.rule2_structs.proofs.StructRules.{Names}
+use lib.ListN.{get_or}
+use Rattle.blocks.specs.Blocks.{words}
+use Rattle.error.specs.declared.What.TheVariants.{Strings}
+use Rattle.error.specs.Answer.{in_range}
 use Rattle.rule2_structs.proofs.check_names.Given as goal
 
-abbrev pub invariant-loop-left : goal.invariant-loop-left
-invariant-loop-left l = Names (module_in (first_words l.sheet l.o.layout.words)) (first_words l.sheet l.o.layout.words) l.at l.count l.left l.p
-
-abbrev pub decreases-loop-left : goal.decreases-loop-left
-decreases-loop-left l = l.left
+abbrev pub ghost-check_each : goal.ghost-check_each
+ghost-check_each a = λ p. in_range Strings a.check.1.now (get_or (words a.check.0.now) p 0)

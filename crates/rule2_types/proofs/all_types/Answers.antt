@@ -1,34 +1,22 @@
 use borrow.Author.Rules.{rules}
 use Rattle.open_sheet.specs.ReadyLaws.{type_room, type_whole}
-use Rattle.rule2_types.proofs.KindRules.{cleared_start, cleared_end, cleared_next, cleared_stop}
+use Rattle.rule2_types.proofs.KindRules.{cleared_end, cleared_next, cleared_stop}
 use Rattle.rule2_types.proofs.all_types.Goals as goal
 
-pub loop-i-init : goal.loop-i-init
-loop-i-init c = search (rules, cleared_start, cleared_end, type_room, type_whole, cleared_next, cleared_stop)
-
 pub type_at-requires : goal.type_at-requires
-type_at-requires c = search (rules, cleared_start, cleared_end, type_room, type_whole, cleared_next, cleared_stop)
+type_at-requires c = search (rules, type_room)
 
-pub check_type-requires : goal.check_type-requires
-check_type-requires c = search (rules, cleared_start, cleared_end, type_room, type_whole, cleared_next, cleared_stop)
+pub check_type-requires-clause-whole : goal.check_type-requires-clause-whole
+check_type-requires-clause-whole c = search (rules, type_whole)
 
-pub enum_told-1 : goal.enum_told-1
-enum_told-1 c = search (rules, cleared_start, cleared_end, type_room, type_whole, cleared_next, cleared_stop)
-
-pub enum_known-k : goal.enum_known-k
-enum_known-k c = search (rules, cleared_start, cleared_end, type_room, type_whole, cleared_next, cleared_stop)
-
-pub returns-in-Broken : goal.returns-in-Broken
-returns-in-Broken c = search (rules, cleared_start, cleared_end, type_room, type_whole, cleared_next, cleared_stop)
-
-pub overflow_add-i : goal.overflow_add-i
-overflow_add-i c = search (rules, cleared_start, cleared_end, type_room, type_whole, cleared_next, cleared_stop)
-
-pub loop-i-smaller : goal.loop-i-smaller
-loop-i-smaller c = search (rules, cleared_start, cleared_end, type_room, type_whole, cleared_next, cleared_stop)
+pub returns-in_err-check_type : goal.returns-in_err-check_type
+returns-in_err-check_type c =
+    let s = cleared_stop _ _ _ c.requires _ c.loop-i-test.true c.type_at.ensures c.loop-i.invariant c.check_type.ensures
+    (c.in_err-check_type.was {u = tt}) in
+    search (rules, s)
 
 pub loop-i-preserved : goal.loop-i-preserved
-loop-i-preserved c = search (rules, cleared_start, cleared_end, type_room, type_whole, cleared_next, cleared_stop)
+loop-i-preserved c = search (rules, cleared_next, c.in_ok-check_type.was)
 
 pub returns : goal.returns
-returns c = search (rules, cleared_start, cleared_end, type_room, type_whole, cleared_next, cleared_stop)
+returns c = search (rules, cleared_end)

@@ -8,5 +8,5 @@ type_word-requires c = search (rules, kind_first)
 pub returns-then-t-o : goal.returns-then-t-o
 returns-then-t-o c = search (rules, kind_test)
 
-pub returns : goal.returns
-returns c = search (rules, kind_none)
+pub returns-else-t-o : goal.returns-else-t-o
+returns-else-t-o c = search (rules, kind_none)

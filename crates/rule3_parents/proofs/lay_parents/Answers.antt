@@ -1,7 +1,6 @@
 use borrow.Author.Rules.{rules}
 use native.Mathlib.Omega.{arith}
-use Rattle.rule3_parents.proofs.LaidSteps.{laying_start, laying_length, laying_kept}
-use Rattle.rule3_parents.proofs.LaidSteps.{laying_ready, laying_room, laying_next, laying_end}
+use Rattle.rule3_parents.proofs.LaidSteps.{laying_start, laying_length, laying_kept, laying_ready, laying_room, laying_next, laying_end}
 use Rattle.rule3_parents.proofs.lay_parents.Goals as goal
 
 pub loop-t-init : goal.loop-t-init

@@ -1,4 +1,5 @@
 use borrow.Author.Rules.{rules}
+use Rattle.std.proofs.lemmas.Result.{err_from_is_err_and}
 use native.Mathlib.Omega.{arith}
 use Rattle.rule4_nesting.proofs.ByKind.{kinds, array_whole, map_whole, const_fits}
 use Rattle.rule4_nesting.proofs.nest_const.Goals as goal
@@ -27,11 +28,13 @@ nest-requires-in_default c = search (rules, map_whole)
 pub returns-in-0 : goal.returns-in-0
 returns-in-0 c = search (rules, kinds)
 
-pub returns-in-Holds : goal.returns-in-Holds
-returns-in-Holds c = search (rules, kinds)
+pub returns-in_ok-string_in-in-1 : goal.returns-in_ok-string_in-in-1
+returns-in_ok-string_in-in-1 c = search (rules, kinds, c.in_ok-string_in-in-1.was)
 
-pub returns-in-Broken : goal.returns-in-Broken
-returns-in-Broken c = search (rules, kinds)
+pub returns-in_err-string_in-in-1 : goal.returns-in_err-string_in-in-1
+returns-in_err-string_in-in-1 c =
+    let p = err_from_is_err_and c.from_residual.result c.from_residual.ensures.1 in
+    rw (p.1, p.2) (search (rules, kinds, c.in_err-string_in-in-1.was))
 
 pub returns-in-2 : goal.returns-in-2
 returns-in-2 c = search (rules, kinds)

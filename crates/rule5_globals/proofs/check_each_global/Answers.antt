@@ -2,42 +2,20 @@ use borrow.Author.Rules.{rules}
 use native.Mathlib.Omega.{arith}
 use Rattle.reader.specs.ValueLaws.{list_within}
 use Rattle.sheet.specs.Decode.{global_of}
-use Rattle.law_judging.specs.Judging.{judges_start, judges_end, judges_stop, judges_whole}
-use Rattle.rule5_globals.proofs.GlobalSteps.{global_within, globals_whole, globals_next}
+use Rattle.law_judging.proofs.EachLaws.{list_member, list_room, list_judged, read_same}
+use Rattle.rule5_globals.specs.Globals.{no_global}
+use Rattle.rule5_globals.proofs.GlobalSteps.{global_takes, globals_whole}
 use Rattle.rule5_globals.proofs.check_each_global.Goals as goal
 
-pub word-left-requires : goal.word-left-requires
-word-left-requires c = search (rules, judges_start, judges_end, judges_stop, judges_whole, globals_whole, globals_next)
+pub overflow_add-at : goal.overflow_add-at
+overflow_add-at c = omega (arith, list_within global_of _ _ _ (globals_whole _ _ c.requires))
 
-pub overflow_add-p : goal.overflow_add-p
-overflow_add-p c = omega (arith, list_within global_of _ _ _ (globals_whole _ _ c.requires))
-
-pub loop-left-init : goal.loop-left-init
-loop-left-init c = search (rules, judges_start, judges_end, judges_stop, judges_whole, globals_whole, globals_next)
-
-pub check_global-requires : goal.check_global-requires
-check_global-requires c = record { whole = judges_whole _ _ _ _ _ _ c.loop-left.invariant c.loop-left-test.true; opens = c.requires }
-
-pub enum_told-1 : goal.enum_told-1
-enum_told-1 c = search (rules, judges_start, judges_end, judges_stop, judges_whole, globals_whole, globals_next)
-
-pub enum_known-k : goal.enum_known-k
-enum_known-k c = search (rules, judges_start, judges_end, judges_stop, judges_whole, globals_whole, globals_next)
-
-pub returns-in-Broken : goal.returns-in-Broken
-returns-in-Broken c = search (rules, judges_start, judges_end, judges_stop, judges_whole, globals_whole, globals_next)
-
-pub overflow_add-p-in-loop-left : goal.overflow_add-p-in-loop-left
-overflow_add-p-in-loop-left c = omega (arith, global_within _ _ _ (judges_whole _ _ _ _ _ _ c.loop-left.invariant c.loop-left-test.true))
-
-pub overflow_sub-left : goal.overflow_sub-left
-overflow_sub-left c = omega arith
-
-pub loop-left-smaller : goal.loop-left-smaller
-loop-left-smaller c = search (rules, judges_start, judges_end, judges_stop, judges_whole, globals_whole, globals_next)
-
-pub loop-left-preserved : goal.loop-left-preserved
-loop-left-preserved c = search (rules, judges_start, judges_end, judges_stop, judges_whole, globals_whole, globals_next)
+pub check_each-requires : goal.check_each-requires
+check_each-requires c κs within =
+    let room = list_room _ 2 global_takes _ _ _ (globals_whole _ _ c.requires) c.word.ensures in
+    let whole = list_member _ 2 global_takes _ _ _ (globals_whole _ _ c.requires) c.word.ensures in
+    (search rules, (omega (arith, room), ((λ i h. search (rules, whole)), λ i r h k. search rules)))
 
 pub returns : goal.returns
-returns c = search (rules, judges_start, judges_end, judges_stop, judges_whole, globals_whole, globals_next)
+returns c = list_judged _ 2 global_takes _ _ _ (globals_whole _ _ c.requires) c.word.ensures _ _
+    (read_same global_of _ _ no_global) c.check_each.ensures

@@ -12,4 +12,4 @@ pub overflow_add-result : goal.overflow_add-result
 overflow_add-result c = omega (arith, import_within _ _ _ c.requires.ready _ c.requires.i_lt_imports c.import_at.ensures)
 
 pub returns : goal.returns
-returns c = search (rules, import_room, import_list, import_listed)
+returns c = search (rules, import_list, import_listed)

@@ -1,21 +1,12 @@
 use borrow.Author.Rules.{rules}
-use Rattle.rule6_funcs.proofs.FuncSteps.{ready_same, same_twice, func_stop, func_then}
+use Rattle.rule6_funcs.proofs.FuncSteps.{func_stop, func_then}
+use Rattle.std.proofs.lemmas.Result.{err_from_is_err_and}
 use Rattle.rule6_funcs.proofs.check_func.Goals as goal
 
-pub open_frame-c-requires : goal.open_frame-c-requires
-open_frame-c-requires c = search (rules, func_stop, func_then)
+pub returns-in_err-check_head-clause-value : goal.returns-in_err-check_head-clause-value
+returns-in_err-check_head-clause-value c =
+    let p = err_from_is_err_and c.from_residual.result c.from_residual.ensures.1 in
+    rw (p.1, p.2) (search (rules, func_stop, c.in_err-check_head.was))
 
-pub shape_of-work-in-Broken : goal.shape_of-work-in-Broken
-shape_of-work-in-Broken c = search (rules, func_stop, func_then)
-
-pub returns-in-Broken : goal.returns-in-Broken
-returns-in-Broken c = search (rules, func_stop, func_then)
-
-pub check_lists-requires : goal.check_lists-requires
-check_lists-requires c = search (rules, ready_same)
-
-pub shape_of-work : goal.shape_of-work
-shape_of-work c = search (rules, same_twice)
-
-pub returns : goal.returns
-returns c = search (rules, func_then, same_twice)
+pub returns-clause-value : goal.returns-clause-value
+returns-clause-value c = search (rules, func_then, c.in_ok-check_head.was)

@@ -1,31 +1,15 @@
 use borrow.Author.Rules.{rules}
-use native.Mathlib.Omega.{arith}
 use Rattle.rule6_funcs.proofs.FuncSteps.{recording}
+use Rattle.std.proofs.lemmas.Result.{err_from_is_err_and}
 use Rattle.rule6_funcs.proofs.check_funcs.Goals as goal
 
-pub loop-f-init : goal.loop-f-init
-loop-f-init c = search (rules, recording)
-
-pub check_func-requires : goal.check_func-requires
-check_func-requires c = search (rules, recording)
-
-pub shape_of-work-in-Refused : goal.shape_of-work-in-Refused
-shape_of-work-in-Refused c = search (rules, recording)
-
-pub returns-in-Refused : goal.returns-in-Refused
-returns-in-Refused c = search (rules, recording)
-
-pub overflow_add-f : goal.overflow_add-f
-overflow_add-f c = omega (arith, c.loop-f-test.true, c.struct_known-1.given)
-
-pub loop-f-smaller : goal.loop-f-smaller
-loop-f-smaller c = search (rules, recording)
+pub returns-in_err-in_function-clause-value : goal.returns-in_err-in_function-clause-value
+returns-in_err-in_function-clause-value c =
+    let p = err_from_is_err_and c.from_residual.result c.from_residual.ensures.1 in
+    rw (p.1, p.2) (search (rules, recording, c.in_err-in_function.was))
 
 pub loop-f-preserved : goal.loop-f-preserved
-loop-f-preserved c = search (rules, recording)
+loop-f-preserved c = search (rules, recording, c.in_ok-in_function.was)
 
-pub shape_of-work : goal.shape_of-work
-shape_of-work c = search (rules, recording)
-
-pub returns : goal.returns
-returns c = search (rules, recording)
+pub returns-clause-value : goal.returns-clause-value
+returns-clause-value c = search (rules, recording)

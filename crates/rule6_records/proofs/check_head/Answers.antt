@@ -1,29 +1,26 @@
 use borrow.Author.Rules.{rules}
+use Rattle.std.proofs.lemmas.Result.{err_from_is_err_and}
 use Rattle.error.specs.VerdictLaws.{none_broken}
 use Rattle.rule_signatures.specs.SignatureLaws.{checked_sig}
-use Rattle.rule6_records.proofs.RecordSteps.{heading, ready_opens}
+use Rattle.rule6_records.proofs.RecordSteps.{heading}
 use Rattle.rule6_records.proofs.check_head.Goals as goal
 
-pub shape_of-work-in-Broken : goal.shape_of-work-in-Broken
-shape_of-work-in-Broken c = search (rules, heading)
+pub returns-in_err-check_signature-clause-value : goal.returns-in_err-check_signature-clause-value
+returns-in_err-check_signature-clause-value c =
+    let p = err_from_is_err_and c.from_residual.result c.from_residual.ensures.1 in
+    rw (p.1, p.2) (search (rules, heading, c.in_err-check_signature.was))
 
-pub returns-in-Broken : goal.returns-in-Broken
-returns-in-Broken c = search (rules, heading)
+pub returns-in_err-check_registers-clause-value : goal.returns-in_err-check_registers-clause-value
+returns-in_err-check_registers-clause-value c =
+    let r = c.from_residual-in_err-check_registers in
+    let p = err_from_is_err_and r.result r.ensures.1 in
+    rw (p.1, p.2) (search (rules, heading, c.in_ok-check_signature.was, c.in_err-check_registers.was))
 
-pub check_registers-requires : goal.check_registers-requires
-check_registers-requires c = search (rules, ready_opens)
+pub check_sig_params-requires-clause-has_sig : goal.check_sig_params-requires-clause-has_sig
+check_sig_params-requires-clause-has_sig c = search (rules, checked_sig, c.in_ok-check_signature.was)
 
-pub shape_of-work-in-Broken-check_registers : goal.shape_of-work-in-Broken-check_registers
-shape_of-work-in-Broken-check_registers c = search (rules, heading)
+pub check_sig_params-requires-clause-c_value : goal.check_sig_params-requires-clause-c_value
+check_sig_params-requires-clause-c_value c = search (rules, none_broken, c.in_ok-check_registers.was)
 
-pub returns-in-Broken-check_registers : goal.returns-in-Broken-check_registers
-returns-in-Broken-check_registers c = search (rules, heading)
-
-pub check_sig_params-requires : goal.check_sig_params-requires
-check_sig_params-requires c = record { ready = search rules; framed = search rules; o_value = search rules; has_sig = search (rules, checked_sig); c_value = search (rules, none_broken) }
-
-pub shape_of-work : goal.shape_of-work
-shape_of-work c = search (rules, heading)
-
-pub returns : goal.returns
-returns c = search (rules, heading)
+pub returns-clause-value : goal.returns-clause-value
+returns-clause-value c = search (rules, heading, c.in_ok-check_signature.was, c.in_ok-check_registers.was)

@@ -1,21 +1,15 @@
 use borrow.Author.Rules.{rules}
-use Rattle.rule6_records.proofs.RecordSteps.{shapes_whole, lists_stop, lists_then, ready_opens}
+use Rattle.std.proofs.lemmas.Result.{err_from_is_err_and}
+use Rattle.rule6_records.proofs.RecordSteps.{shapes_whole, lists_stop, lists_then}
 use Rattle.rule6_records.proofs.check_lists.Goals as goal
 
-pub check_shapes-requires : goal.check_shapes-requires
-check_shapes-requires c = search (rules, shapes_whole, lists_stop, lists_then)
+pub check_shapes-requires-clause-whole : goal.check_shapes-requires-clause-whole
+check_shapes-requires-clause-whole c = search (rules, shapes_whole)
 
-pub shape_of-work-in-Broken : goal.shape_of-work-in-Broken
-shape_of-work-in-Broken c = search (rules, shapes_whole, lists_stop, lists_then)
+pub returns-in_err-check_shapes-clause-value : goal.returns-in_err-check_shapes-clause-value
+returns-in_err-check_shapes-clause-value c =
+    let p = err_from_is_err_and c.from_residual.result c.from_residual.ensures.1 in
+    rw (p.1, p.2) (search (rules, lists_stop, c.in_err-check_shapes.was))
 
-pub returns-in-Broken : goal.returns-in-Broken
-returns-in-Broken c = search (rules, shapes_whole, lists_stop, lists_then)
-
-pub check_tail-requires : goal.check_tail-requires
-check_tail-requires c = search (rules, ready_opens)
-
-pub shape_of-work : goal.shape_of-work
-shape_of-work c = search (rules, shapes_whole, lists_stop, lists_then)
-
-pub returns : goal.returns
-returns c = search (rules, shapes_whole, lists_stop, lists_then)
+pub returns-clause-value : goal.returns-clause-value
+returns-clause-value c = search (rules, lists_then, c.in_ok-check_shapes.was)

@@ -38,10 +38,6 @@ offset_bounds-work-base c =
 pub bounds-work-base : goal.bounds-work-base
 bounds-work-base c = search (rules, indexing_place)
 
-pub overflow_add-j : goal.overflow_add-j
-overflow_add-j c =
-    omega (arith, c.loop-j-test.true, c.struct_known-in-loop-j-1.given)
-
 pub loop-j-preserved : goal.loop-j-preserved
 loop-j-preserved c = search (rules, indexing_next)
 

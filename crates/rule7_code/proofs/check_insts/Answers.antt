@@ -1,5 +1,6 @@
 use borrow.Author.Rules.{rules}
 use native.Mathlib.Omega.{arith}
+use Rattle.std.proofs.lemmas.Result.{err_from_is_err_and}
 use mathlib.Core.Path.{refl}
 use Rattle.rule7_code.proofs.InstSteps.{sweeping, sweeps_room, sweeps_next, sweeps_stop}
 use Rattle.rule7_parts.proofs.LastSteps.{code_inside, inst_whole}
@@ -23,8 +24,8 @@ offset_bounds-work-o c = omega (arith, code_inside _ _ _ c.requires.framed, c.lo
 pub bounds-work-o : goal.bounds-work-o
 bounds-work-o c = sweeps_room _ _ _ _ _ c.requires.ready c.requires.framed c.loop-pc-test.true
 
-pub larger-reach-requires : goal.larger-reach-requires
-larger-reach-requires c = search (rules, sweeping)
+pub max-reach-requires : goal.max-reach-requires
+max-reach-requires c = search (rules, sweeping)
 
 pub overflow_add-c : goal.overflow_add-c
 overflow_add-c c = omega (arith, code_inside _ _ _ c.requires.framed, c.loop-pc-test.true, c.requires.words_bound)
@@ -44,23 +45,13 @@ check_inst-v-requires c = record { ready = c.requires.ready; framed = c.requires
 pub at_position-requires : goal.at_position-requires
 at_position-requires c = record { f_bound = c.requires.func_bound; pc_bound = omega (arith, code_inside _ _ _ c.requires.framed, c.loop-pc-test.true, c.requires.words_bound) }
 
-pub enum_told-1 : goal.enum_told-1
-enum_told-1 c = search (rules, sweeping)
-
-pub enum_known-e : goal.enum_known-e
-enum_known-e c = search (rules, sweeping)
-
-pub returns-in-Refused : goal.returns-in-Refused
-returns-in-Refused c = sweeps_stop _ _ _ _ c.requires.framed _ _ c.loop-pc.invariant c.requires.ends c.loop-pc-test.true refl c.larger-reach.ensures refl c.check_inst-v.ensures c.at_position.ensures (search rules)
-
-pub overflow_add-pc : goal.overflow_add-pc
-overflow_add-pc c = omega (arith, code_inside _ _ _ c.requires.framed, c.loop-pc-test.true, c.requires.words_bound)
-
-pub loop-pc-smaller : goal.loop-pc-smaller
-loop-pc-smaller c = search (rules, sweeping)
+pub returns-in_err-at_position : goal.returns-in_err-at_position
+returns-in_err-at_position c =
+    let p = err_from_is_err_and c.from_residual.result c.from_residual.ensures.1 in
+    rw (p.1, p.2) (sweeps_stop _ _ _ _ c.requires.framed _ _ c.loop-pc.invariant c.requires.ends c.loop-pc-test.true refl c.max-reach.ensures refl c.check_inst-v.ensures c.at_position.ensures (c.in_err-at_position.was {u = tt}))
 
 pub loop-pc-preserved : goal.loop-pc-preserved
-loop-pc-preserved c = sweeps_next _ _ _ _ c.requires.framed _ _ c.loop-pc.invariant c.requires.ends c.loop-pc-test.true refl c.larger-reach.ensures refl c.check_inst-v.ensures c.at_position.ensures (search rules)
+loop-pc-preserved c = sweeps_next _ _ _ _ c.requires.framed _ _ c.loop-pc.invariant c.requires.ends c.loop-pc-test.true refl c.max-reach.ensures refl c.check_inst-v.ensures c.at_position.ensures (c.in_ok-at_position.was {u = tt})
 
 pub returns : goal.returns
 returns c = search (rules, sweeping)

@@ -1,10 +1,6 @@
-use Prim.Native.Nat.{◌-◌}
 use Rattle.blocks.specs.Frame.{first_words}
 use Rattle.rule7_code.proofs.InstSteps.{Sweeps}
 use Rattle.rule7_code.proofs.check_insts.Given as goal
 
 abbrev pub invariant-loop-pc : goal.invariant-loop-pc
 invariant-loop-pc l = Sweeps (first_words l.sheet l.o.layout.words) l.c l.pc l.reach
-
-abbrev pub decreases-loop-pc : goal.decreases-loop-pc
-decreases-loop-pc l = l.c.code - l.pc

@@ -1,11 +1,13 @@
 use borrow.Author.Rules.{rules}
-use Rattle.rule7_kinds.specs.Slots.{slots_of}
-use Rattle.rule7_kinds.proofs.Fields.{place_in, kind_at}
+use denote.Enum.Enum.{tag}
+use denote.Enum.Declared.{rowss, intoss}
+use Rattle.std.specs.Prelude.{◌≡◌, refl}
+use Rattle.rule7_kinds.specs.declared.Slot.TheVariants.{A, B, W, C}
+use Rattle.rule7_kinds.specs.Slots.{slots_of, place_of}
+use Rattle.rule7_kinds.specs.contracts.Slot.{the_parts, as_values}
+use Rattle.rule7_kinds.proofs.Fields.{kind_at}
 use Rattle.rule7_kinds.proofs.field_kind.Goals as goal
 
-pub bounds-k : goal.bounds-k
-bounds-k c = search (rules, place_in)
-
 pub returns : goal.returns
-unfolding slots_of
-returns c = kind_at c.args.code c.place-k.result c.args.slot _ _ (search rules) c.place-k.ensures
+unfolding slots_of place_of
+returns c = kind_at c.args.code _ c.args.slot _ _ (search rules) (elim c.args.slot as (λ s. tag (rowss the_parts) (intoss the_parts (as_values s)) ≡ place_of s) [ A ↦ refl | B ↦ refl | W ↦ refl | C ↦ refl ])

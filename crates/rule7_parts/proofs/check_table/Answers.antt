@@ -1,46 +1,29 @@
 use borrow.Author.Rules.{rules}
 use native.Mathlib.Omega.{arith}
-use Rattle.rule7_parts.proofs.TableSteps.{targets_fit, aiming, switch_within}
+use Rattle.std.proofs.lemmas.Result.{err_from_is_err_and}
+use Rattle.rule7_parts.proofs.TableSteps.{target_faults, switch_fit, switch_within, targets_stop, targets_last}
 use Rattle.rule7_parts.proofs.check_table.Goals as goal
 
-pub word-requires : goal.word-requires
-word-requires c = search (rules, aiming)
+pub overflow_add-at : goal.overflow_add-at
+overflow_add-at c = omega (arith, switch_within)
 
-pub overflow_cast-left : goal.overflow_cast-left
-overflow_cast-left c = search (rules, aiming)
+pub check_each-requires : goal.check_each-requires
+unfolding target_faults
+check_each-requires c κs within =
+    let room = switch_fit _ _ _ c.requires.whole c.word-count.ensures in
+    (search rules depth 9, (omega (arith, room), (search rules, search rules)))
 
-pub overflow_add-left : goal.overflow_add-left
-overflow_add-left c = search (rules, aiming)
-
-pub overflow_add-p : goal.overflow_add-p
-overflow_add-p c = omega (arith, switch_within)
-
-pub loop-left-init : goal.loop-left-init
-loop-left-init c = search (rules, aiming)
-
-pub check_target-requires : goal.check_target-requires
-check_target-requires c = search (rules, aiming)
-
-pub enum_told-1 : goal.enum_told-1
-enum_told-1 c = search (rules, aiming)
-
-pub enum_known-k : goal.enum_known-k
-enum_known-k c = search (rules, aiming)
-
-pub returns-in-Broken : goal.returns-in-Broken
-returns-in-Broken c = search (rules, aiming)
-
-pub overflow_add-p-in-loop-left : goal.overflow_add-p-in-loop-left
-overflow_add-p-in-loop-left c = omega (arith, targets_fit)
-
-pub overflow_sub-left : goal.overflow_sub-left
-overflow_sub-left c = search (rules, aiming)
-
-pub loop-left-smaller : goal.loop-left-smaller
-loop-left-smaller c = search (rules, aiming)
-
-pub loop-left-preserved : goal.loop-left-preserved
-loop-left-preserved c = search (rules, aiming)
+pub returns-in_err-check_each : goal.returns-in_err-check_each
+returns-in_err-check_each c =
+    let p = err_from_is_err_and c.from_residual.result c.from_residual.ensures.1 in
+    rw (p.1, p.2) (targets_stop _ _ _ _ c.requires.whole c.word-count.ensures c.check_each.ensures (c.in_err-check_each.was {u = tt}))
 
 pub returns : goal.returns
-returns c = search (rules, aiming)
+unfolding target_faults
+returns c = targets_last _ _ _ _ c.requires.whole c.word-count.ensures c.check_each.ensures (c.in_ok-check_each.was {u = tt}) c.check_target.ensures
+
+pub overflow_add-at-2 : goal.overflow_add-at-2
+overflow_add-at-2 c = omega (arith, switch_within)
+
+pub overflow_add-at-3 : goal.overflow_add-at-3
+overflow_add-at-3 c = omega (arith, switch_fit _ _ _ c.requires.whole c.word-count.ensures)

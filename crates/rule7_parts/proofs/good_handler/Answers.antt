@@ -12,14 +12,5 @@ overflow_add-at-2 c = omega (arith, handler_within)
 pub overflow_add-at-3 : goal.overflow_add-at-3
 overflow_add-at-3 c = omega (arith, handler_within)
 
-pub returns-then-end-word : goal.returns-then-end-word
-returns-then-end-word c = search (rules, handling)
-
-pub returns-then-c-end : goal.returns-then-c-end
-returns-then-c-end c = search (rules, handling)
-
-pub returns-then-c-target : goal.returns-then-c-target
-returns-then-c-target c = search (rules, handling)
-
 pub returns : goal.returns
 returns c = search (rules, handling)

@@ -10,11 +10,11 @@ pub overflow_add-p : goal.overflow_add-p
 overflow_add-p c =
     omega (arith, export_in _ _ c.requires.opens _ c.requires.i_in_bounds c.export_at-p.ensures)
 
-pub returns-then-kind-eq0 : goal.returns-then-kind-eq0
-returns-then-kind-eq0 c = search (rules, indexes)
+pub returns-in-0 : goal.returns-in-0
+returns-in-0 c = search (rules, indexes)
 
-pub returns-then-kind-eq1 : goal.returns-then-kind-eq1
-returns-then-kind-eq1 c = search (rules, indexes)
+pub returns-in-1 : goal.returns-in-1
+returns-in-1 c = search (rules, indexes)
 
-pub returns : goal.returns
-returns c = search (rules, indexes)
+pub returns-in_default : goal.returns-in_default
+returns-in_default c = search (rules, indexes)

@@ -1,12 +1,17 @@
 use borrow.Author.Rules.{rules}
-use Rattle.rule8_hooks.proofs.BoundSteps.{import_holds, import_broken, import_missing}
+use Rattle.rule8_hooks.proofs.BoundSteps.{range_below, import_stop, import_holds, import_broken}
 use Rattle.rule8_hooks.proofs.check_bound_import.Goals as goal
 
-pub returns-then-import_fits : goal.returns-then-import_fits
-returns-then-import_fits c = search (rules, import_holds, import_broken, import_missing)
+pub returns-in_err-in_range : goal.returns-in_err-in_range
+returns-in_err-in_range c =
+    let s = import_stop _ _ _ c.requires.ready c.args.h _ c.in_range.ensures (c.in_err-in_range.was {u = tt}) in
+    search (rules, s)
 
-pub returns-then-i-o : goal.returns-then-i-o
-returns-then-i-o c = search (rules, import_holds, import_broken, import_missing)
+pub import_fits-requires-clause-i_lt_imports : goal.import_fits-requires-clause-i_lt_imports
+import_fits-requires-clause-i_lt_imports c = search (rules, range_below, c.in_ok-in_range.was)
+
+pub returns-then-not-import_fits : goal.returns-then-not-import_fits
+returns-then-not-import_fits c = search (rules, import_broken, c.in_ok-in_range.was)
 
 pub returns : goal.returns
-returns c = search (rules, import_holds, import_broken, import_missing)
+returns c = search (rules, import_holds, c.in_ok-in_range.was)

@@ -9,14 +9,14 @@ overflow_add-at c = omega (arith, hook_within)
 pub overflow_add-at-2 : goal.overflow_add-at-2
 overflow_add-at-2 c = omega (arith, hook_within)
 
-pub check_bound_function-requires : goal.check_bound_function-requires
-check_bound_function-requires c = search (rules, hook_listed, hook_function, hook_import)
+pub check_bound_function-requires-clause-h_bound : goal.check_bound_function-requires-clause-h_bound
+check_bound_function-requires-clause-h_bound c = search (rules, hook_listed)
 
-pub returns-then-kind-eq0 : goal.returns-then-kind-eq0
-returns-then-kind-eq0 c = search (rules, hook_listed, hook_function, hook_import)
+pub check_bound_import-requires-clause-h_bound : goal.check_bound_import-requires-clause-h_bound
+check_bound_import-requires-clause-h_bound c = search (rules, hook_listed)
 
-pub check_bound_import-requires : goal.check_bound_import-requires
-check_bound_import-requires c = search (rules, hook_listed, hook_function, hook_import)
+pub returns-in-0 : goal.returns-in-0
+returns-in-0 c = search (rules, hook_function)
 
-pub returns : goal.returns
-returns c = search (rules, hook_listed, hook_function, hook_import)
+pub returns-in_default : goal.returns-in_default
+returns-in_default c = search (rules, hook_import)

@@ -3,7 +3,7 @@ use Rattle.rule8_hooks.proofs.FitSteps.{hook_result, hook_params}
 use Rattle.rule8_hooks.proofs.hook_fits.Goals as goal
 
 pub returns-then-params_fit : goal.returns-then-params_fit
-returns-then-params_fit c = search (rules, hook_result, hook_params)
+returns-then-params_fit c = search (rules, hook_result)
 
-pub returns : goal.returns
-returns c = search (rules, hook_result, hook_params)
+pub returns-else-params_fit : goal.returns-else-params_fit
+returns-else-params_fit c = search (rules, hook_params)

@@ -16,10 +16,12 @@ pub captures_count-requires : goal.captures_count-requires
 captures_count-requires c = search (rules, counted_whole)
 
 pub overflow_add-work : goal.overflow_add-work
-overflow_add-work c = omega (arith, counted_place _ _ _ c.requires _ _ c.loop-f.invariant c.loop-f-test.true, c.loop-f.invariant.frame.len)
+overflow_add-work c =
+    omega (arith, counted_place _ _ _ c.requires _ _ c.loop-f.invariant c.loop-f-test.true, c.loop-f.invariant.frame.len)
 
 pub offset_bounds-work-base : goal.offset_bounds-work-base
-offset_bounds-work-base c = omega (arith, counted_place _ _ _ c.requires _ _ c.loop-f.invariant c.loop-f-test.true, c.loop-f.invariant.frame.len)
+offset_bounds-work-base c =
+    omega (arith, counted_place _ _ _ c.requires _ _ c.loop-f.invariant c.loop-f-test.true, c.loop-f.invariant.frame.len)
 
 pub bounds-work-base : goal.bounds-work-base
 bounds-work-base c = search (rules, counted_place)
@@ -31,4 +33,7 @@ pub shape_of-work : goal.shape_of-work
 shape_of-work c = c.loop-f.invariant.frame.len
 
 pub returns : goal.returns
-returns c = record { frame = c.loop-f.invariant.frame; by_index = counted_end _ _ _ _ _ c.loop-f.invariant (search rules) }
+returns c = record {
+  frame = c.loop-f.invariant.frame;
+  by_index = counted_end _ _ _ _ _ c.loop-f.invariant (search rules);
+}

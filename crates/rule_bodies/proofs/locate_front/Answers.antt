@@ -1,10 +1,6 @@
-use borrow.Author.Rules.{rules}
 use native.Mathlib.Omega.{arith}
-use Rattle.rule_bodies.proofs.BodySteps.{function_within, fronts}
+use Rattle.rule_bodies.proofs.BodySteps.{function_within}
 use Rattle.rule_bodies.proofs.locate_front.Goals as goal
 
 pub overflow_add-at : goal.overflow_add-at
 overflow_add-at c = omega (arith, function_within)
-
-pub returns : goal.returns
-returns c = search (rules, fronts)

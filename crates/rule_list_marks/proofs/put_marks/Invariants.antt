@@ -3,8 +3,6 @@ use Rattle.blocks.specs.Blocks.{words}
 use Rattle.rule_list_marks.proofs.MarkSteps.{Marking}
 use Rattle.rule_list_marks.proofs.put_marks.Given as goal
 
-abbrev pub invariant-loop-left : goal.invariant-loop-left
-invariant-loop-left l = Marking l.k l.v (3 * l.o.layout.words) l.o.counts.strings l.o.layout.words (words l.sheet) l.initial.work l.count l.from l.work l.left l.p l.new
-
-abbrev pub decreases-loop-left : goal.decreases-loop-left
-decreases-loop-left l = l.left
+abbrev pub invariant-loop : goal.invariant-loop
+invariant-loop l = Marking l.k l.v (3 * l.o.layout.words) l.o.counts.strings l.o.layout.words
+    (words l.sheet) l.initial.work l.count l.from l.work l.counter l.p l.new

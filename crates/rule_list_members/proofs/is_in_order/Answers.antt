@@ -2,8 +2,5 @@ use borrow.Author.Rules.{rules}
 use Rattle.rule_list_members.proofs.MemberSteps.{order_late, order_free}
 use Rattle.rule_list_members.proofs.is_in_order.Goals as goal
 
-pub returns-then-late : goal.returns-then-late
-returns-then-late c = search (rules, order_late, order_free)
-
 pub returns : goal.returns
 returns c = search (rules, order_late, order_free)

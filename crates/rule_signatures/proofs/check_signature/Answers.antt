@@ -1,19 +1,25 @@
 use borrow.Author.Rules.{rules}
 use Rattle.open_sheet.specs.ReadyLaws.{type_room, type_whole}
-use Rattle.rule_signatures.proofs.SigSteps.{signature_holds, signature_broken, type_missing}
+use Rattle.rule_signatures.proofs.SigSteps.{type_missing, type_there, signature_holds, signature_broken}
 use Rattle.rule_signatures.proofs.check_signature.Goals as goal
 
-pub type_at-p-requires : goal.type_at-p-requires
-type_at-p-requires c = search (rules, type_room, type_whole, signature_holds, signature_broken, type_missing)
+pub returns-in_err-type_in : goal.returns-in_err-type_in
+returns-in_err-type_in c =
+    let s = type_missing _ _ _ c.requires _ c.type_in.ensures (c.in_err-type_in.was {u = tt}) in
+    search (rules, s)
+
+pub type_at-requires : goal.type_at-requires
+type_at-requires c =
+    let t = type_there _ _ _ c.requires _ c.type_in.ensures (c.in_ok-type_in.was {u = tt}) in
+    search (rules, type_room, t)
 
 pub is_signature-requires : goal.is_signature-requires
-is_signature-requires c = search (rules, type_room, type_whole, signature_holds, signature_broken, type_missing)
+is_signature-requires c =
+    let t = type_there _ _ _ c.requires _ c.type_in.ensures (c.in_ok-type_in.was {u = tt}) in
+    search (rules, type_whole, t)
 
 pub returns-then-is_signature : goal.returns-then-is_signature
-returns-then-is_signature c = search (rules, type_room, type_whole, signature_holds, signature_broken, type_missing)
-
-pub returns-then-t-o : goal.returns-then-t-o
-returns-then-t-o c = search (rules, type_room, type_whole, signature_holds, signature_broken, type_missing)
+returns-then-is_signature c = search (rules, signature_holds, c.in_ok-type_in.was)
 
 pub returns : goal.returns
-returns c = search (rules, type_room, type_whole, signature_holds, signature_broken, type_missing)
+returns c = search (rules, signature_broken, c.in_ok-type_in.was)

@@ -10,5 +10,5 @@ overflow_add-at c = omega (arith, list_within)
 pub returns-then-word-eq1 : goal.returns-then-word-eq1
 returns-then-word-eq1 c = search (rules, one_dyn_lem, not_one)
 
-pub returns : goal.returns
-returns c = search (rules, one_dyn_lem, not_one)
+pub returns-else-word-eq1 : goal.returns-else-word-eq1
+returns-else-word-eq1 c = search (rules, one_dyn_lem, not_one)

@@ -1,42 +1,20 @@
 use borrow.Author.Rules.{rules}
 use native.Mathlib.Omega.{arith}
 use Rattle.reader.specs.ValueLaws.{list_within}
-use Rattle.law_judging.specs.Judging.{judges_start, judges_end, judges_stop, judges_whole}
-use Rattle.rule_values.proofs.ValueRules.{value_whole, values_next, value_in}
+use Rattle.sheet.specs.Module.{dyn}
+use Rattle.sheet.specs.Decode.{value_type}
+use Rattle.law_judging.proofs.EachLaws.{list_member, list_room, list_judged, read_same}
+use Rattle.sheet.proofs.SizeLaws.{value_takes}
 use Rattle.rule_values.proofs.check_values.Goals as goal
 
-pub word-left-requires : goal.word-left-requires
-word-left-requires c = search (rules, judges_start, judges_end, judges_stop, judges_whole, values_next)
+pub overflow_add-at : goal.overflow_add-at
+overflow_add-at c = omega (arith, list_within)
 
-pub overflow_add-p : goal.overflow_add-p
-overflow_add-p c = omega (arith, list_within)
-
-pub loop-left-init : goal.loop-left-init
-loop-left-init c = search (rules, judges_start, judges_end, judges_stop, judges_whole, values_next)
-
-pub check_value-requires : goal.check_value-requires
-check_value-requires c = search (rules, value_whole)
-
-pub enum_told-1 : goal.enum_told-1
-enum_told-1 c = search (rules, judges_start, judges_end, judges_stop, judges_whole, values_next)
-
-pub enum_known-k : goal.enum_known-k
-enum_known-k c = search (rules, judges_start, judges_end, judges_stop, judges_whole, values_next)
-
-pub returns-in-Broken : goal.returns-in-Broken
-returns-in-Broken c = search (rules, judges_start, judges_end, judges_stop, judges_whole, values_next)
-
-pub overflow_add-p-in-loop-left : goal.overflow_add-p-in-loop-left
-overflow_add-p-in-loop-left c = omega (arith, value_in _ _ _ (judges_whole _ _ _ _ _ _ c.loop-left.invariant c.loop-left-test.true))
-
-pub overflow_sub-left : goal.overflow_sub-left
-overflow_sub-left c = search (rules, judges_start, judges_end, judges_stop, judges_whole, values_next)
-
-pub loop-left-smaller : goal.loop-left-smaller
-loop-left-smaller c = search (rules, judges_start, judges_end, judges_stop, judges_whole, values_next)
-
-pub loop-left-preserved : goal.loop-left-preserved
-loop-left-preserved c = search (rules, judges_start, judges_end, judges_stop, judges_whole, values_next)
+pub check_each-requires : goal.check_each-requires
+check_each-requires c κs within =
+    let room = list_room _ 1 value_takes _ _ _ c.requires.whole c.word.ensures in
+    let whole = list_member _ 1 value_takes _ _ _ c.requires.whole c.word.ensures in
+    (search rules, (omega (arith, room), ((λ i h. search (rules, whole)), λ i r h k. search rules)))
 
 pub returns : goal.returns
-returns c = search (rules, judges_start, judges_end, judges_stop, judges_whole, values_next)
+returns c = list_judged _ 1 value_takes _ _ _ c.requires.whole c.word.ensures _ _ (read_same value_type _ _ dyn) c.check_each.ensures

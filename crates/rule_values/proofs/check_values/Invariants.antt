@@ -1,12 +1,12 @@
-use Rattle.blocks.specs.Frame.{first_words}
+use Rattle.reader.specs.Value.{value_of}
+use Rattle.sheet.specs.Module.{dyn}
 use Rattle.sheet.specs.Decode.{value_type}
-use Rattle.open_layout.specs.Opened.{module_in}
+use Rattle.open_sheet.specs.Ready.{sheet_words, module_of}
 use Rattle.types.specs.Types.{value_faults}
-use Rattle.law_judging.specs.Judging.{Judges}
 use Rattle.rule_values.proofs.check_values.Given as goal
 
-abbrev pub invariant-loop-left : goal.invariant-loop-left
-invariant-loop-left l = Judges value_type (value_faults (module_in (first_words l.sheet l.o.layout.words))) (first_words l.sheet l.o.layout.words) l.at l.left l.p
-
-abbrev pub decreases-loop-left : goal.decreases-loop-left
-decreases-loop-left l = l.left
+abbrev pub ghost-check_each : goal.ghost-check_each
+ghost-check_each a =
+    let sheet = a.check.0.now in
+    let o = a.check.1.now in
+    λ p. value_faults (module_of sheet o) (value_of dyn (value_type (sheet_words sheet o) p))

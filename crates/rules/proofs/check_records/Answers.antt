@@ -1,43 +1,40 @@
 use borrow.Author.Rules.{rules}
+use Rattle.std.proofs.lemmas.Result.{err_from_is_err_and}
 use Rattle.open_sheet.specs.ReadyLaws.{ready_kept}
-use Rattle.rules.proofs.OrderSteps.{record_order, funcs_last, kept_equal, linked_equal}
+use Rattle.rules.specs.GroupLaws.{linked_refused}
+use Rattle.rules.proofs.OrderSteps.{imports_stop, globals_stop, funcs_last, kept_equal, linked_equal, record_order}
 use Rattle.rules.proofs.check_records.Goals as goal
 
-pub check_imports-requires : goal.check_imports-requires
-check_imports-requires c = search (rules, record_order)
+pub returns-in_err-check_imports-clause-value : goal.returns-in_err-check_imports-clause-value
+returns-in_err-check_imports-clause-value c =
+    let s = imports_stop _ _ _ (c.in_err-check_imports.was {u = tt}) c.check_imports.ensures.value in
+    search (rules, s)
 
-pub enum_told-1 : goal.enum_told-1
-enum_told-1 c = search (rules, record_order, ready_kept)
+pub returns-in_err-check_imports-clause-linked_if : goal.returns-in_err-check_imports-clause-linked_if
+returns-in_err-check_imports-clause-linked_if c =
+    let p = err_from_is_err_and c.from_residual.result c.from_residual.ensures.1 in
+    rw (p.1, p.2) (linked_refused _ _ _ _ _)
 
-pub enum_known-e : goal.enum_known-e
-enum_known-e c = search (rules, record_order, ready_kept)
+pub returns-in_err-check_globals-clause-value : goal.returns-in_err-check_globals-clause-value
+returns-in_err-check_globals-clause-value c =
+    let s = globals_stop _ _ _ (c.in_ok-check_imports.was {u = tt}) c.check_imports.ensures.value (c.in_err-check_globals.was {u = tt}) c.check_globals.ensures in
+    search (rules, s)
 
-pub shape_of-work-in-Refused : goal.shape_of-work-in-Refused
-shape_of-work-in-Refused c = search (rules, record_order, ready_kept)
+pub returns-in_err-check_globals-clause-linked_if : goal.returns-in_err-check_globals-clause-linked_if
+returns-in_err-check_globals-clause-linked_if c =
+    let p = err_from_is_err_and c.from_residual-in_err-check_globals.result c.from_residual-in_err-check_globals.ensures.1 in
+    rw (p.1, p.2) (linked_refused _ _ _ _ _)
 
-pub returns-in-Refused : goal.returns-in-Refused
-returns-in-Refused c = search (rules, record_order)
+pub returns-clause-value : goal.returns-clause-value
+returns-clause-value c =
+    funcs_last _ _ (c.in_ok-check_imports.was {u = tt}) c.check_imports.ensures.value (c.in_ok-check_globals.was {u = tt}) c.check_globals.ensures c.check_funcs.ensures.value
 
-pub check_globals-requires : goal.check_globals-requires
-check_globals-requires c = search (rules, record_order)
+pub returns-clause-kept : goal.returns-clause-kept
+returns-clause-kept c = kept_equal _ _ _ _ c.check_imports.ensures.kept c.check_funcs.ensures.work_unchanged
 
-pub enum_told-in-Passed-check_globals : goal.enum_told-in-Passed-check_globals
-enum_told-in-Passed-check_globals c = search (rules, record_order, ready_kept)
+pub returns-clause-linked_if : goal.returns-clause-linked_if
+returns-clause-linked_if c =
+    linked_equal _ _ _ _ _ (c.in_ok-check_imports.was {u = tt}) c.check_imports.ensures.linked_if c.check_funcs.ensures.work_unchanged
 
-pub enum_known-e-in-Refused-check_globals : goal.enum_known-e-in-Refused-check_globals
-enum_known-e-in-Refused-check_globals c = search (rules, record_order, ready_kept)
-
-pub shape_of-work-in-Refused-check_globals : goal.shape_of-work-in-Refused-check_globals
-shape_of-work-in-Refused-check_globals c = search (rules, record_order, ready_kept)
-
-pub returns-in-Refused-check_globals : goal.returns-in-Refused-check_globals
-returns-in-Refused-check_globals c = record { value = search (rules, record_order); kept = search (rules, record_order); linked_if = search (rules, record_order) }
-
-pub check_funcs-requires : goal.check_funcs-requires
-check_funcs-requires c = search (rules, record_order, ready_kept)
-
-pub shape_of-work : goal.shape_of-work
-shape_of-work c = search (rules, record_order, ready_kept)
-
-pub returns : goal.returns
-returns c = record { value = funcs_last _ _ c.in-Passed.is c.check_imports.ensures.value c.in-Passed-check_globals.is c.check_globals.ensures c.check_funcs.ensures.value; kept = kept_equal _ _ _ _ c.check_imports.ensures.kept c.check_funcs.ensures.work_unchanged; linked_if = linked_equal _ _ _ _ _ c.in-Passed.is c.check_imports.ensures.linked_if c.check_funcs.ensures.work_unchanged }
+pub check_funcs-requires-clause-ready : goal.check_funcs-requires-clause-ready
+check_funcs-requires-clause-ready c = search (rules, ready_kept)

@@ -14,12 +14,6 @@ overflow_mul-k c = omega arith
 pub overflow_add-hs : goal.overflow_add-hs
 overflow_add-hs c = omega arith
 
-pub word-requires : goal.word-requires
-word-requires c = tt
-
-pub widen-start-requires : goal.widen-start-requires
-widen-start-requires c = tt
-
 pub overflow_mul-k-in-loop-k : goal.overflow_mul-k-in-loop-k
 overflow_mul-k-in-loop-k c = omega arith
 
@@ -29,23 +23,8 @@ overflow_add-hs-in-loop-k c = omega arith
 pub overflow_add-hs-in-loop-k-2 : goal.overflow_add-hs-in-loop-k-2
 overflow_add-hs-in-loop-k-2 c = omega arith
 
-pub word-requires-in-loop-k : goal.word-requires-in-loop-k
-word-requires-in-loop-k c = tt
-
-pub widen-requires : goal.widen-requires
-widen-requires c = tt
-
-pub least-stop-requires : goal.least-stop-requires
-least-stop-requires c = tt
-
 pub paint-requires : goal.paint-requires
 paint-requires c = search (rules, all_paint)
-
-pub overflow_add-k : goal.overflow_add-k
-overflow_add-k c = omega arith
-
-pub loop-k-smaller : goal.loop-k-smaller
-loop-k-smaller c = omega arith
 
 pub loop-k-preserved : goal.loop-k-preserved
 loop-k-preserved c = (

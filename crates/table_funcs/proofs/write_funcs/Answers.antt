@@ -12,12 +12,6 @@ loop-f-init c = recorded_start _ _ _ c.requires.ready _ _
 pub write_func-p-requires : goal.write_func-p-requires
 write_func-p-requires c = record { ready = c.loop-f.invariant.ready; words_bound = c.requires.words_bound; o_value = c.requires.o_value; f_lt_funcs = c.loop-f-test.true; f_value = recorded_holds _ _ _ c.args.table.now _ c.requires.o_in_bounds _ _ c.push-p.ensures.table_after c.push-p.ensures.value _ _ _ _ c.loop-f.invariant c.loop-f-test.true c.requires.o_value_2; f_in_bounds = recorded_room _ _ _ c.args.table.now _ c.requires.o_in_bounds _ _ c.push-p.ensures.table_after c.push-p.ensures.value _ _ _ _ c.loop-f.invariant c.loop-f-test.true }
 
-pub overflow_add-f : goal.overflow_add-f
-overflow_add-f c = omega (arith, c.loop-f-test.true, c.struct_known-1.given)
-
-pub loop-f-smaller : goal.loop-f-smaller
-loop-f-smaller c = omega (arith, c.loop-f-test.true)
-
 pub loop-f-preserved : goal.loop-f-preserved
 loop-f-preserved c = recorded_next _ _ _ c.args.table.now _ c.requires.o_in_bounds _ _ c.push-p.ensures.table_after c.push-p.ensures.value _ _ _ _ c.loop-f.invariant c.loop-f-test.true _ _ _ c.write_func-p.ensures.table_after c.write_func-p.ensures.value c.write_func-p.ensures.frame
 

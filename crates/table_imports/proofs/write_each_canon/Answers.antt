@@ -12,9 +12,6 @@ canon_type-t-requires c = number_room _ _ _ c.requires.ready _ c.loop-i-test.tru
 pub push-p-requires : goal.push-p-requires
 push-p-requires c = canon_room _ _ _ c.requires.ready _ c.loop-i-test.true _ _ _ _ c.loop-i.invariant c.requires.types_in_bounds
 
-pub overflow_add-i : goal.overflow_add-i
-overflow_add-i c = omega (arith, c.struct_known-1.given)
-
 pub loop-i-preserved : goal.loop-i-preserved
 loop-i-preserved c =
     canon_next _ _ _ c.requires.ready _ c.loop-i-test.true _ _ _ _ c.loop-i.invariant c.requires.types_in_bounds _ _ c.canon_type-t.ensures c.push-p.ensures.table_after c.push-p.ensures.value

@@ -10,9 +10,6 @@ pub write_import-p-requires : goal.write_import-p-requires
 write_import-p-requires c =
     record { ready = c.requires.ready; sigs_inside = c.requires.sigs_inside; i_lt_imports = c.loop-i-test.true; at_in_bounds = import_room _ _ _ _ _ _ _ _ c.loop-i.invariant c.requires.imports_in_bounds c.loop-i-test.true }
 
-pub overflow_add-i : goal.overflow_add-i
-overflow_add-i c = omega (arith, c.struct_known-1.given)
-
 pub loop-i-preserved : goal.loop-i-preserved
 loop-i-preserved c =
     import_next _ _ _ _ _ _ _ _ c.loop-i.invariant c.requires.imports_in_bounds c.loop-i-test.true _ _ c.write_import-p.ensures.table_after c.write_import-p.ensures.value

@@ -1,4 +1,3 @@
-use native.Mathlib.Omega.{arith}
 use Rattle.table_imports.proofs.ImportSteps.{host_room, sig_room, import_written}
 use Rattle.table_imports.proofs.write_import.Goals as goal
 
@@ -9,5 +8,7 @@ pub host_entry-host-requires : goal.host_entry-host-requires
 host_entry-host-requires c = host_room _ _ _ c.requires.ready c.requires.sigs_inside _ c.requires.i_lt_imports
 
 pub returns : goal.returns
-returns c =
-    record { table_after = import_written _ _ _ c.requires.ready c.requires.sigs_inside _ c.requires.i_lt_imports c.import_sig-stored.ensures _ _ _ _ _ c.requires.at_in_bounds c.canon_type-sig.ensures c.host_entry-host.ensures c.push-next.ensures.table_after c.push-next.ensures.value c.push.ensures.table_after; value = omega (arith, c.push-next.ensures.value, c.push.ensures.value) }
+returns c = record {
+  table_after = import_written _ _ _ c.requires.ready c.requires.sigs_inside _ c.requires.i_lt_imports c.import_sig-stored.ensures _ _ _ c.canon_type-sig.ensures c.host_entry-host.ensures c.push_all.ensures.table_after;
+  value = c.push_all.ensures.value;
+}

@@ -1,4 +1,4 @@
-use Prim.Native.Nat.{◌-◌, ◌*◌}
+use Prim.Native.Nat.{◌*◌}
 use mathlib.Core.List.{[]}
 use Rattle.blocks.specs.Frame.{first_words}
 use Rattle.reader.specs.Reader.{list_of}
@@ -11,6 +11,3 @@ use Rattle.table_names.proofs.gather_fields.Given as goal
 
 abbrev pub invariant-loop-slot : goal.invariant-loop-slot
 invariant-loop-slot l = Gathers l.initial.work l.work (6 * l.o.layout.words) (slot_pairs (module_in (first_words l.sheet l.o.layout.words)) (named_fields (value_of [] (list_of field_of (first_words l.sheet l.o.layout.words) l.at)))) l.slot
-
-abbrev pub decreases-loop-slot : goal.decreases-loop-slot
-decreases-loop-slot l = l.count - l.slot

@@ -29,12 +29,6 @@ overflow_add-p-in-loop-i-2 c = let f = methods_fit _ _ _ _ _ _ _ c.requires.read
 pub put_name-requires : goal.put_name-requires
 put_name-requires c = let f = methods_fit _ _ _ _ _ _ _ c.requires.ready c.requires.whole c.requires.count_value c.loop-i.invariant in record { ready = still_ready _ _ _ _ c.requires.ready c.loop-i.invariant.frame; p_in_bounds = methods_turn _ _ _ _ _ _ _ c.requires.ready c.requires.whole c.requires.count_value c.loop-i.invariant c.requires.at_value (omega arith); to_in_bounds = omega (arith, f.0, f.1) }
 
-pub overflow_add-i : goal.overflow_add-i
-overflow_add-i c = omega arith
-
-pub loop-i-smaller : goal.loop-i-smaller
-loop-i-smaller c = omega arith
-
 pub loop-i-preserved : goal.loop-i-preserved
 loop-i-preserved c = methods_next _ _ _ _ _ _ _ c.requires.ready c.requires.whole c.requires.count_value c.loop-i.invariant _ (omega arith) c.word.ensures c.put_name.ensures
 

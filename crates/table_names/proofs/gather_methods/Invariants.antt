@@ -1,4 +1,4 @@
-use Prim.Native.Nat.{◌-◌, ◌*◌}
+use Prim.Native.Nat.{◌*◌}
 use mathlib.Core.List.{[]}
 use Rattle.blocks.specs.Frame.{first_words}
 use Rattle.reader.specs.Reader.{list_of}
@@ -11,6 +11,3 @@ use Rattle.table_names.proofs.gather_methods.Given as goal
 
 abbrev pub invariant-loop-i : goal.invariant-loop-i
 invariant-loop-i l = Gathers l.initial.work l.work (6 * l.o.layout.words) (method_pairs (module_in (first_words l.sheet l.o.layout.words)) (value_of [] (list_of method_of (first_words l.sheet l.o.layout.words) l.at))) l.i
-
-abbrev pub decreases-loop-i : goal.decreases-loop-i
-decreases-loop-i l = l.count - l.i

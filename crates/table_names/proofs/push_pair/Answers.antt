@@ -1,6 +1,6 @@
-use native.Mathlib.Omega.{arith}
-use Rattle.table_names.proofs.WriteSteps.{pushed_pair}
+use Rattle.sheet.specs.Encode.{encode_pair}
 use Rattle.table_names.proofs.push_pair.Goals as goal
 
-pub returns : goal.returns
-returns c = record { table_after = pushed_pair _ _ _ _ _ _ _ (omega arith) c.push-p.ensures.table_after c.push-p.ensures.value c.push.ensures.table_after; value = omega (arith, c.push-p.ensures.value, c.push.ensures.value) }
+pub returns-clause-table_after : goal.returns-clause-table_after
+unfolding encode_pair
+returns-clause-table_after c = c.push_all.ensures.table_after

@@ -14,12 +14,6 @@ overflow_add-a c = omega arith
 pub push_pair-p-requires : goal.push_pair-p-requires
 push_pair-p-requires c = (omega (arith, c.requires.n_in_bounds), pushes_room _ _ _ _ _ c.requires.n_in_bounds_2 _ _ _ c.loop-i.invariant (omega arith))
 
-pub overflow_add-i : goal.overflow_add-i
-overflow_add-i c = omega arith
-
-pub loop-i-smaller : goal.loop-i-smaller
-loop-i-smaller c = omega arith
-
 pub loop-i-preserved : goal.loop-i-preserved
 loop-i-preserved c = pushes_next _ _ _ _ _ c.requires.n_in_bounds_2 _ _ _ c.loop-i.invariant _ _ (omega arith) c.push_pair-p.ensures.table_after c.push_pair-p.ensures.value
 

@@ -1,25 +1,33 @@
 use borrow.Author.Rules.{rules}
-use native.Mathlib.Omega.{arith}
-use Rattle.table_numbers.proofs.NumberSteps.{numbers_start, number_below, numbers_kept, number_place, numbers_next, numbers_end, numbers_after}
+use Rattle.std.proofs.Common.{◌<◌, length, ◌≡◌, arith, ◌∙◌, get_or, [], sym}
+use Rattle.std.proofs.lemmas.List.{length-map, get_or-map}
+use Rattle.reader.specs.Reader.{word, list_of}
+use Rattle.reader.specs.Value.{value_of}
+use Rattle.canon.specs.Canon.{canon_string}
+use Rattle.open_sheet.specs.Ready.{sheet_words, module_of}
+use Rattle.writing.proofs.Captures.{four_within}
+use Rattle.table_numbers.proofs.NumberSteps.{number_below, numbers_count}
 use Rattle.table_numbers.proofs.write_names.Goals as goal
 
-pub push-p-requires : goal.push-p-requires
-push-p-requires c = omega arith
+pub write_list-requires : goal.write_list-requires
+write_list-requires c κs within =
+    let xs = value_of [] (list_of word (sheet_words c.args.sheet.now c.args.o) c.args.names_at) in
+    let f = canon_string (module_of c.args.sheet.now c.args.o).strings in
+    let k : (i : _) → i < c.word-count.result → i < length xs = λ i l. number_below _ _ _ c.requires.whole _ c.word-count.ensures i l in (
+      four_within within.0 within.1.0 within.1.1.0 within.1.1.1.0,
+      (
+        λ i l _ _ _ _ _ _ _ _ _ _. (c.requires.ready, (c.requires.whole, (c.requires.names_at_value, k i l))),
+        (
+          λ i w l p. let e : w ≡ f (get_or xs i 0) = search rules in e ∙ sym (get_or-map f xs i 0 0 (k i l)),
+          (numbers_count _ _ _ c.requires.whole c.word-count.ensures ∙ sym (length-map xs f), omega (arith, numbers_count _ _ _ c.requires.whole c.word-count.ensures)),
+        ),
+      ),
+    )
 
-pub loop-i-init : goal.loop-i-init
-loop-i-init c = search (rules, numbers_start)
+pub returns-clause-table_after : goal.returns-clause-table_after
+returns-clause-table_after c = c.write_list.ensures.table_after
 
-pub name_at-c-requires : goal.name_at-c-requires
-name_at-c-requires c = record { ready = c.requires.ready; whole = c.requires.whole; names_at_value = c.requires.names_at_value; i_in_bounds = number_below _ _ _ c.requires.whole _ c.word-count.ensures _ c.loop-i-test.true }
-
-pub push-p-requires-in-loop-i : goal.push-p-requires-in-loop-i
-push-p-requires-in-loop-i c = search (rules, number_place)
-
-pub loop-i-preserved : goal.loop-i-preserved
-loop-i-preserved c = search (rules, numbers_next)
-
-pub shape_of-table : goal.shape_of-table
-shape_of-table c = numbers_kept _ _ _ c.requires.whole _ c.word-count.ensures _ _ c.requires.names_at_in_bounds _ _ _ c.push-p.ensures.table_after c.push-p.ensures.value _ _ _ c.loop-i.invariant
-
-pub returns : goal.returns
-returns c = search (rules, numbers_end, numbers_after)
+pub returns-clause-value : goal.returns-clause-value
+returns-clause-value c =
+    let xs = value_of [] (list_of word (sheet_words c.args.sheet.now c.args.o) c.args.names_at) in
+    omega (arith, c.write_list.ensures.value, length-map xs (canon_string (module_of c.args.sheet.now c.args.o).strings), numbers_count _ _ _ c.requires.whole c.word-count.ensures)

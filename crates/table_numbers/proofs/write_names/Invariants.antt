@@ -1,12 +1,13 @@
-use Prim.Native.Nat.{◌-◌}
+use Rattle.std.specs.Prelude.{[], map}
 use Rattle.blocks.specs.Frame.{first_words}
+use Rattle.reader.specs.Reader.{word, list_of}
+use Rattle.reader.specs.Value.{value_of}
 use Rattle.canon.specs.Canon.{canon_string}
 use Rattle.open_layout.specs.Opened.{module_in}
-use Rattle.table_numbers.proofs.NumberSteps.{Numbers}
 use Rattle.table_numbers.proofs.write_names.Given as goal
 
-abbrev pub invariant-loop-i : goal.invariant-loop-i
-invariant-loop-i l = Numbers (canon_string (module_in (first_words l.sheet l.o.layout.words)).strings) (first_words l.sheet l.o.layout.words) l.names_at l.count l.initial.table l.initial.p l.i l.table l.p
-
-abbrev pub decreases-loop-i : goal.decreases-loop-i
-decreases-loop-i l = l.count - l.i
+abbrev pub ghost-write_list : goal.ghost-write_list
+ghost-write_list a =
+    let o = a.word_of.2.now in
+    let ws = first_words a.word_of.0.now o.layout.words in
+    map (canon_string (module_in ws).strings) (value_of [] (list_of word ws a.word_of.3.now))

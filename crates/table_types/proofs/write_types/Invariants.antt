@@ -5,6 +5,3 @@ use Rattle.table_types.proofs.write_types.Given as goal
 
 abbrev pub invariant-loop-i : goal.invariant-loop-i
 invariant-loop-i l = Types (first_words l.sheet l.o.layout.words) l.initial.work l.o l.initial.table l.initial.p l.i l.work l.table l.p
-
-abbrev pub decreases-loop-i : goal.decreases-loop-i
-decreases-loop-i l = l.o.counts.types - l.i

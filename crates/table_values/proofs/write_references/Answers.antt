@@ -10,11 +10,11 @@ overflow_add-p c = omega arith
 pub loop-i-init : goal.loop-i-init
 loop-i-init c = search (rules, places_start)
 
-pub overflow_mul-stride : goal.overflow_mul-stride
-overflow_mul-stride c = omega (arith, present_within _ _ _ _ _ c.requires.present _ c.loop-i-test.true)
+pub overflow_mul-q : goal.overflow_mul-q
+overflow_mul-q c = omega (arith, present_within _ _ _ _ _ c.requires.present _ c.loop-i-test.true)
 
-pub overflow_add-first : goal.overflow_add-first
-overflow_add-first c = omega (arith, present_within _ _ _ _ _ c.requires.present _ c.loop-i-test.true)
+pub overflow_add-q : goal.overflow_add-q
+overflow_add-q c = omega (arith, present_within _ _ _ _ _ c.requires.present _ c.loop-i-test.true)
 
 pub write_place-p-requires : goal.write_place-p-requires
 write_place-p-requires c = search (rules, present_whole, places_room)

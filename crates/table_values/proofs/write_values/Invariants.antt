@@ -1,11 +1,11 @@
-use Prim.Native.Nat.{◌-◌}
+use Rattle.std.specs.Prelude.{map}
 use Rattle.blocks.specs.Frame.{first_words}
+use Rattle.canon.specs.Canon.{canon_word}
 use Rattle.open_layout.specs.Opened.{module_in}
-use Rattle.table_values.proofs.ValueSteps.{Canons}
+use Rattle.table_values.specs.Values.{values_at}
 use Rattle.table_values.proofs.write_values.Given as goal
 
-abbrev pub invariant-loop-i : goal.invariant-loop-i
-invariant-loop-i l = Canons (module_in (first_words l.sheet l.o.layout.words)).types (first_words l.sheet l.o.layout.words) l.first l.stride l.n l.initial.table l.initial.p l.i l.table l.p
-
-abbrev pub decreases-loop-i : goal.decreases-loop-i
-decreases-loop-i l = l.n - l.i
+abbrev pub ghost-write_list : goal.ghost-write_list
+ghost-write_list a =
+    let ws = first_words a.word_of.0.now a.word_of.2.now.layout.words in
+    map (canon_word (module_in ws).types) (values_at ws a.word_of.3.now a.word_of.4.now a.n)

@@ -1,3 +1,4 @@
+use borrow.Author.Rules.{rules}
 use Rattle.utf8.proofs.Stepping.{is_done_lem, is_not_done}
 use Rattle.utf8.proofs.is_done.Goals as goal
 

@@ -7,6 +7,3 @@ returns-then-b-low c = search (rules, later_below, later_above, later_in)
 
 pub returns-then-high-b : goal.returns-then-high-b
 returns-then-high-b c = search (rules, later_below, later_above, later_in)
-
-pub returns : goal.returns
-returns c = search (rules, later_below, later_above, later_in)

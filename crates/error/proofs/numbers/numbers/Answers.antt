@@ -2,8 +2,8 @@ use borrow.Author.Rules.{rules}
 use Rattle.error.proofs.NumbersLaws.{by_accepted, by_refused}
 use Rattle.error.proofs.numbers.numbers.Goals as goal
 
-pub returns-in-Accepted : goal.returns-in-Accepted
-returns-in-Accepted c = search (rules, by_accepted, by_refused)
+pub returns-in-Ok : goal.returns-in-Ok
+returns-in-Ok c = search (rules, by_accepted, by_refused)
 
-pub returns-in-Refused : goal.returns-in-Refused
-returns-in-Refused c = search (rules, by_accepted, by_refused)
+pub returns-in-Err : goal.returns-in-Err
+returns-in-Err c = search (rules, by_accepted, by_refused)

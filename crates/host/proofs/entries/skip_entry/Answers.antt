@@ -1,12 +1,7 @@
-use borrow.Author.Rules.{rules}
-use Rattle.host.proofs.EntrySteps.{entering}
+use Rattle.host.proofs.EntrySteps.{name_next}
 use Rattle.host.proofs.entries.skip_entry.Goals as goal
 
-pub returns-in_default : goal.returns-in_default
-returns-in_default c = search (rules, entering)
-
-pub returns-in_default-skip_string : goal.returns-in_default-skip_string
-returns-in_default-skip_string c = search (rules, entering)
-
 pub returns : goal.returns
-returns c = search (rules, entering)
+returns c =
+    name_next _ _ _ (c.in_ok-name.was {u = tt}) c.skip_string.ensures _
+    (c.in_ok-kind.was {u = tt}) c.skip_string-2.ensures c.skip_kind.ensures

@@ -6,10 +6,8 @@ use Rattle.open_hosts.proofs.IndexSteps.{edging_start, edging_whole, edging_next
 use Rattle.open_hosts.proofs.order.index_entries.Goals as goal
 
 pub loop-i-init : goal.loop-i-init
-loop-i-init c = edging_start _ _ _ _ c.requires.whole (all_bytes c.args.hosts.now (λ i. omega (arith, c.type_inv.hosts i))) c.entry_count-count.ensures c.requires.n_in_bounds
-
-pub put-requires : goal.put-requires
-put-requires c = omega (arith, c.loop-i.invariant.room, c.loop-i.invariant.inside, c.requires.n_bound)
+loop-i-init c = edging_start _ _ _ _ c.requires.whole (all_bytes c.args.hosts.now (λ i. omega (arith, c.type_inv.hosts i)))
+    c.entry_count-count.ensures c.requires.n_in_bounds
 
 pub kind_of-p-requires : goal.kind_of-p-requires
 kind_of-p-requires c = search (rules, edging_whole)
@@ -17,19 +15,8 @@ kind_of-p-requires c = search (rules, edging_whole)
 pub overflow_add-p : goal.overflow_add-p
 overflow_add-p c = omega (arith, kind_within)
 
-pub overflow_add-i : goal.overflow_add-i
-overflow_add-i c = omega arith
-
-pub loop-i-smaller : goal.loop-i-smaller
-loop-i-smaller c = omega arith
-
 pub loop-i-preserved : goal.loop-i-preserved
-loop-i-preserved c =
-    edging_next _ _ _ _ _ _ _ c.loop-i.invariant c.loop-i-test.true _ _
-    c.put.ensures c.kind_of-p.ensures
-
-pub put-requires-2 : goal.put-requires-2
-put-requires-2 c = omega (arith, c.loop-i.invariant.room, c.loop-i.invariant.inside, c.requires.n_bound)
+loop-i-preserved c = edging_next _ _ _ _ _ _ _ c.loop-i.invariant c.loop-i-test.true _ _ c.put.ensures c.kind_of-p.ensures
 
 pub returns : goal.returns
 returns c = edging_end _ _ _ _ _ _ _ c.loop-i.invariant _ c.loop-i-test.false c.put-2.ensures

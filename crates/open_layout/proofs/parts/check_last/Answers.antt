@@ -1,18 +1,14 @@
 use borrow.Author.Rules.{rules}
-use Rattle.open_layout.proofs.LayoutSteps.{hooks_stop, start_stop, exports_stop, ends_whole, ends_elsewhere}
+use Rattle.open_layout.proofs.LayoutSteps.{lasts}
 use Rattle.open_layout.proofs.parts.check_last.Goals as goal
 
-pub returns-in_default : goal.returns-in_default
-returns-in_default c = search (rules, hooks_stop, start_stop, exports_stop, ends_whole, ends_elsewhere)
-
-pub returns-in_default-next_word : goal.returns-in_default-next_word
-returns-in_default-next_word c = search (rules, hooks_stop, start_stop, exports_stop, ends_whole, ends_elsewhere)
-
-pub returns-in_default-skip_exports : goal.returns-in_default-skip_exports
-returns-in_default-skip_exports c = search (rules, hooks_stop, start_stop, exports_stop, ends_whole, ends_elsewhere)
+pub returns-in_err-end : goal.returns-in_err-end
+returns-in_err-end c =
+    rw c.from_residual-in_err-end.ensures
+    (search (rules, lasts, c.in_ok-start.was, c.in_ok-exports.was, c.in_err-end.was))
 
 pub returns-then-end-n : goal.returns-then-end-n
-returns-then-end-n c = search (rules, hooks_stop, start_stop, exports_stop, ends_whole, ends_elsewhere)
+returns-then-end-n c = search (rules, lasts, c.in_ok-start.was, c.in_ok-exports.was, c.in_ok-end.was)
 
 pub returns : goal.returns
-returns c = search (rules, hooks_stop, start_stop, exports_stop, ends_whole, ends_elsewhere)
+returns c = search (rules, lasts, c.in_ok-start.was, c.in_ok-exports.was, c.in_ok-end.was)

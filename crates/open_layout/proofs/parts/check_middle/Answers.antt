@@ -1,15 +1,11 @@
 use borrow.Author.Rules.{rules}
-use Rattle.open_layout.proofs.LayoutSteps.{imports_stop, globals_stop, funcs_stop, funcs_next}
+use Rattle.open_layout.proofs.LayoutSteps.{middles}
 use Rattle.open_layout.proofs.parts.check_middle.Goals as goal
 
-pub returns-in_default : goal.returns-in_default
-returns-in_default c = search (rules, imports_stop, globals_stop, funcs_stop, funcs_next)
-
-pub returns-in_default-skip_globals : goal.returns-in_default-skip_globals
-returns-in_default-skip_globals c = search (rules, imports_stop, globals_stop, funcs_stop, funcs_next)
-
-pub returns-in_default-skip_functions : goal.returns-in_default-skip_functions
-returns-in_default-skip_functions c = search (rules, imports_stop, globals_stop, funcs_stop, funcs_next)
+pub returns-in_err-hooks : goal.returns-in_err-hooks
+returns-in_err-hooks c =
+    rw c.from_residual-in_err-hooks.ensures
+    (search (rules, middles, c.in_ok-globals.was, c.in_ok-funcs.was, c.in_err-hooks.was))
 
 pub returns : goal.returns
-returns c = search (rules, imports_stop, globals_stop, funcs_stop, funcs_next)
+returns c = search (rules, middles, c.in_ok-globals.was, c.in_ok-funcs.was, c.in_ok-hooks.was)

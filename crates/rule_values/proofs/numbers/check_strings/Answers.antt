@@ -1,45 +1,18 @@
 use borrow.Author.Rules.{rules}
 use native.Mathlib.Omega.{arith}
 use Rattle.reader.specs.ValueLaws.{list_within}
-use Rattle.law_judging.specs.Judging.{judges_start, judges_end}
-use Rattle.rule_values.proofs.NumberRules.{words_fit, strings_next, strings_stop}
+use Rattle.reader.proofs.SizeLaws.{word_takes}
+use Rattle.law_judging.proofs.EachLaws.{list_room, list_judged}
+use Rattle.rule_values.proofs.NumberRules.{strings_same}
 use Rattle.rule_values.proofs.numbers.check_strings.Goals as goal
 
-pub word-left-requires : goal.word-left-requires
-word-left-requires c = search (rules, judges_start, judges_end, strings_next, strings_stop)
+pub overflow_add-at : goal.overflow_add-at
+overflow_add-at c = omega (arith, list_within)
 
-pub overflow_add-p : goal.overflow_add-p
-overflow_add-p c = omega (arith, list_within, words_fit)
-
-pub loop-left-init : goal.loop-left-init
-loop-left-init c = search (rules, judges_start, judges_end, strings_next, strings_stop)
-
-pub word-requires : goal.word-requires
-word-requires c = search (rules, judges_start, judges_end, strings_next, strings_stop)
-
-pub string_in-requires : goal.string_in-requires
-string_in-requires c = search (rules, judges_start, judges_end, strings_next, strings_stop)
-
-pub enum_told-1 : goal.enum_told-1
-enum_told-1 c = search (rules, judges_start, judges_end, strings_next, strings_stop)
-
-pub enum_known-k : goal.enum_known-k
-enum_known-k c = search (rules, judges_start, judges_end, strings_next, strings_stop)
-
-pub returns-in-Broken : goal.returns-in-Broken
-returns-in-Broken c = search (rules, judges_start, judges_end, strings_next, strings_stop)
-
-pub overflow_add-p-in-loop-left : goal.overflow_add-p-in-loop-left
-overflow_add-p-in-loop-left c = omega (arith, list_within, words_fit)
-
-pub overflow_sub-left : goal.overflow_sub-left
-overflow_sub-left c = search (rules, judges_start, judges_end, strings_next, strings_stop)
-
-pub loop-left-smaller : goal.loop-left-smaller
-loop-left-smaller c = search (rules, judges_start, judges_end, strings_next, strings_stop)
-
-pub loop-left-preserved : goal.loop-left-preserved
-loop-left-preserved c = search (rules, judges_start, judges_end, strings_next, strings_stop)
+pub check_each-requires : goal.check_each-requires
+check_each-requires c κs within =
+    let room = list_room _ 1 word_takes _ _ _ c.requires.whole c.word.ensures in
+    (search rules, (omega (arith, room), (search rules, search rules)))
 
 pub returns : goal.returns
-returns c = search (rules, judges_start, judges_end, strings_next, strings_stop)
+returns c = list_judged _ 1 word_takes _ _ _ c.requires.whole c.word.ensures _ _ (strings_same _ _ _ c.requires.opens) c.check_each.ensures
