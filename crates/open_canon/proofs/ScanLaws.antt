@@ -59,3 +59,10 @@ equal_if Greater x a t = let z : ◌≡◌ {A = ℕ} 0 1 = cc in absurd (omega a
 
 pub apart_if : (r x : Ordering) → r ≡ x → false ≡ is_eq r → x ≡ Equal → ⊥
 apart_if r x a t e = let u : false ≡ true = t ∙ ap is_eq (a ∙ e) in let z : ◌≡◌ {A = ℕ} 0 1 = cc in omega arith
+
+-- contents that are apart are not the same
+pub less_apart : (r x : Ordering) → r ≡ x → r ≡ Less → x ≡ Equal → ⊥
+less_apart r x a b e = let z : ◌≡◌ {A = ℕ} 0 1 = cc in omega arith
+
+pub more_apart : (r x : Ordering) → r ≡ x → r ≡ Greater → x ≡ Equal → ⊥
+more_apart r x a b e = let z : ◌≡◌ {A = ℕ} 0 1 = cc in omega arith

@@ -10,7 +10,7 @@ use Rattle.blocks.specs.ByteLaws.{is_word}
 use Rattle.sheet.specs.Module.{Module}
 use Rattle.open_layout.specs.LayoutLaws.{Located}
 use Rattle.open_layout.specs.declared.Layout.{Layout}
-use Rattle.open_index.specs.Index.{Strings, Types, Consts, Imports, Funcs}
+use Rattle.open_index.specs.declared.Part.TheVariants.{Strings, Types, Consts, Imports, Funcs}
 use Rattle.open_index.specs.Index.{edges_of, index, index_of}
 use Rattle.open_index.specs.SheetIndex.{strings_indexed, types_indexed}
 use Rattle.canon.specs.Canon.{canon_string, canon_type}

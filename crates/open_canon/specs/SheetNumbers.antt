@@ -23,7 +23,7 @@ use Rattle.sheet.specs.Coded.{coded_type}
 use Rattle.sheet.proofs.TypeCodes.{type_codes}
 use Rattle.open_layout.specs.LayoutLaws.{Located}
 use Rattle.open_layout.specs.declared.Layout.{Layout}
-use Rattle.open_index.specs.Index.{Strings, Types}
+use Rattle.open_index.specs.declared.Part.TheVariants.{Strings, Types}
 use Rattle.open_index.specs.Index.{edges_of, member_of}
 use Rattle.open_index.specs.IndexLaws.{Indexed, list_begins}
 use Rattle.open_index.specs.SheetIndex.{strings_indexed, types_indexed}

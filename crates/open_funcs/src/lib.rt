@@ -12,7 +12,7 @@ use blocks::word;
 use open_parts::imports::skip_params;
 use open_types::skip_values;
 use reader::{skip_list, skip_records};
-use sheet_reader::next_word;
+use sheet_reader::{next_word, skip_part};
 
 // Call shapes: each a list of kinds and names.
 pub fn skip_shapes(sheet: &[u8], n: usize, at: usize) -> Option<usize>
@@ -105,5 +105,5 @@ pub fn skip_function(sheet: &[u8], n: usize, at: usize) -> Option<usize>
 pub fn skip_functions(sheet: &[u8], n: usize, at: usize) -> Option<usize>
     ensures { result ≡ step_of (list_of function_of (first_words sheet.now n) at) }
 {
-    skip_list(sheet, n, at, |p| skip_function(sheet, n, p))
+    skip_part(sheet, n, at, |p| skip_function(sheet, n, p))
 }

@@ -20,7 +20,8 @@ use Rattle.reader.specs.StepLaws.{arrived, word_read}
 use Rattle.reader.specs.Value.{Whole}
 use Rattle.reader.specs.ValueLaws.{whole_inv, list_within}
 use Rattle.reader.proofs.SizeLaws.{many_length}
-use Rattle.open_index.specs.Index.{Part, member_of, edges_of}
+use Rattle.open_index.specs.declared.Part.{Part}
+use Rattle.open_index.specs.Index.{member_of, edges_of}
 use Rattle.open_index.specs.IndexLaws.{edges_got}
 use Rattle.open_index.proofs.Members.{member_is, member_inside, drop_next, get_d_here}
 

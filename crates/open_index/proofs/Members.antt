@@ -9,7 +9,9 @@ use lib.ListN.{length, get_or, drop}
 use lib.Seq.{drop-drop, get_or-drop}
 use Rattle.blocks.specs.Frame.{first_words}
 use Rattle.std.specs.Prelude.{Option}
-use Rattle.reader.specs.Reader.{broken, got, Reader}
+use Rattle.reader.specs.Reader.{broken, got, Reader, list_of}
+use Rattle.reader.specs.Value.{Whole}
+use Rattle.std.proofs.Common.{subst}
 use Rattle.lists.specs.Lists.{all_of}
 use Rattle.blocks.specs.ByteLaws.{is_word}
 use Rattle.utf8.specs.Utf8.{well_formed}
@@ -25,7 +27,9 @@ use Rattle.sheet.specs.Coded.{coded_type, coded_func}
 use Rattle.sheet.proofs.TypeCodes.{type_codes, const_codes}
 use Rattle.sheet.proofs.FuncCodes.{import_codes, function_codes}
 use Rattle.open_layout.specs.Layout.{pos_of}
-use Rattle.open_index.specs.Index.{Part, Strings, Types, Consts, Imports, Funcs, member_of}
+use Rattle.open_index.specs.declared.Part.{Part}
+use Rattle.open_index.specs.declared.Part.TheVariants.{Strings, Types, Consts, Imports, Funcs}
+use Rattle.open_index.specs.Index.{member_of, edges_of}
 use Rattle.open_index.specs.SheetIndex.{const_some}
 
 -- ── a member ──
@@ -54,6 +58,14 @@ module _ (ws : List ℕ) (at : ℕ) {x : Option ℕ} where
   pub member_func : x ≡ step_of (function_of ws at) → x ≡ step_of (member_of Funcs ws at)
   unfolding member_of
   member_func = position function_of ws at
+
+-- a part that has a name
+module _ {part named : Part} (e : part ≡ named) (ws : List ℕ) (at : ℕ) where
+  pub whole_as : Whole (list_of (member_of part) ws at) → Whole (list_of (member_of named) ws at)
+  whole_as = subst (λ p. Whole (list_of (member_of p) ws at)) e
+
+  pub room_as : (base n : ℕ) → base + length (edges_of part ws at) ≤ n → base + length (edges_of named ws at) ≤ n
+  room_as base n = subst (λ p. base + length (edges_of p ws at) ≤ n) e
 
 -- a member's value is where it stands
 pos_of_is : {A : Type 0} (f : Reader A) (ws : List ℕ) (at s q : ℕ) → pos_of f ws at ≡ got s q → s ≡ at

@@ -7,7 +7,8 @@ use lib.ListN.{length, length-append}
 use lib.Seq.{paste, length-paste}
 use Rattle.lists.specs.PasteLaws.{paste_paste}
 use Rattle.open_layout.specs.declared.Layout.{Layout}
-use Rattle.open_index.specs.Index.{Strings, Types, Consts, Imports, Funcs, edges_of, index, index_of}
+use Rattle.open_index.specs.declared.Part.TheVariants.{Strings, Types, Consts, Imports, Funcs}
+use Rattle.open_index.specs.Index.{edges_of, index, index_of}
 
 -- w is w₀ with s over it from word 0 on, and b is the word after it
 pub record Filled (w₀ s w : List ℕ) (b : ℕ) : Type 0 where

@@ -7,14 +7,8 @@ use Rattle.sheet.specs.Decode.{type_def, const_of, import_of, function_of}
 use Rattle.open_layout.specs.Layout.{pos_of}
 use Rattle.open_layout.specs.declared.Layout.{Layout}
 use Rattle.open_index.specs.declared.Index.{Index}
-
--- the parts whose members are reached by number
-pub data Part : Type 0 where
-  Strings : Part
-  Types : Part
-  Consts : Part
-  Imports : Part
-  Funcs : Part
+use Rattle.open_index.specs.declared.Part.{Part}
+use Rattle.open_index.specs.declared.Part.TheVariants.{Strings, Types, Consts, Imports, Funcs}
 
 -- where a member of the part stands
 unfoldable pub member_of : Part → Reader ℕ

@@ -32,7 +32,8 @@ use Rattle.open_layout.specs.Layout.{layout_of, layout}
 use Rattle.open_layout.specs.Opened.{module_in}
 use Rattle.open_layout.specs.LayoutLaws.{layout_module, Located, located}
 use Rattle.open_layout.specs.declared.Layout.{Layout}
-use Rattle.open_index.specs.Index.{Strings, Types, Consts, Imports, Funcs, member_of, edges_of, Indexable, index}
+use Rattle.open_index.specs.declared.Part.TheVariants.{Strings, Types, Consts, Imports, Funcs}
+use Rattle.open_index.specs.Index.{member_of, edges_of, Indexable, index}
 use Rattle.open_index.specs.IndexLaws.{Indexed, indexed, list_fit}
 
 pub const_some : (k : Const) → 1 ≤ length (encode_const k)

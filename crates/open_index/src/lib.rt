@@ -7,7 +7,8 @@ ghost use Rattle.blocks.specs.Frame.{first_words};
 ghost use Rattle.reader.specs.Reader.{list_of};
 ghost use Rattle.reader.specs.Step.{step_of};
 ghost use Rattle.reader.specs.Value.{Whole};
-ghost use Rattle.open_index.specs.Index.{Part, member_of, edges_of, Indexable, index, index_of};
+ghost use Rattle.open_index.specs.declared.Part.{Part};
+ghost use Rattle.open_index.specs.Index.{member_of, edges_of, Indexable, index, index_of};
 
 use blocks::word;
 use open_funcs::skip_function;
@@ -17,8 +18,18 @@ use open_parts::imports::skip_import;
 use open_types::skip_type;
 use reader::skip_string;
 
+// The parts whose members are reached by number.
+#[derive(Clone, Copy)]
+pub enum Part {
+    Strings,
+    Types,
+    Consts,
+    Imports,
+    Funcs,
+}
+
 // Writes where each member of the list at `at` stands, and where it ends, to work[base..] alone; gives the word after them.
-pub fn index_part<F: Fn(usize) -> Option<usize>>(
+pub fn index_members<F: Fn(usize) -> Option<usize>>(
     sheet: &[u8],
     n: usize,
     at: usize,
@@ -45,6 +56,30 @@ pub fn index_part<F: Fn(usize) -> Option<usize>>(
     end + 1
 }
 
+// The same of a part by its name.
+pub fn index_part(
+    sheet: &[u8],
+    n: usize,
+    part: Part,
+    at: usize,
+    work: &mut [u32],
+    base: usize,
+) -> usize
+    requires whole { Whole (list_of (member_of part) (first_words sheet.now n) at) }
+    requires n_bound { n < 2 ^ 32 }
+    requires at_in_bounds { base + length (edges_of part (first_words sheet.now n) at) ≤ length work.old }
+    ensures value { result ≡ base + length (edges_of part (first_words sheet.now n) at) }
+    ensures work_after { work.new ≡ paste work.old base (edges_of part (first_words sheet.now n) at) (length (edges_of part (first_words sheet.now n) at)) }
+{
+    match part {
+        Part::Strings => index_members(sheet, n, at, |p| skip_string(sheet, n, p), work, base),
+        Part::Types => index_members(sheet, n, at, |p| skip_type(sheet, n, p), work, base),
+        Part::Consts => index_members(sheet, n, at, |p| skip_const(sheet, n, p), work, base),
+        Part::Imports => index_members(sheet, n, at, |p| skip_import(sheet, n, p), work, base),
+        Part::Funcs => index_members(sheet, n, at, |p| skip_function(sheet, n, p), work, base),
+    }
+}
+
 // Where each part's edges begin in the index, and where the index ends.
 #[derive(Clone, Copy)]
 pub struct Index {
@@ -65,32 +100,11 @@ pub fn index_sheet(sheet: &[u8], l: Layout, work: &mut [u32]) -> Index
     ensures work_after { work.new ≡ paste work.old 0 (index (first_words sheet.now l.words) l) (length (index (first_words sheet.now l.words) l)) }
 {
     let n = l.words;
-    let types = index_part(sheet, n, l.strings, |p| skip_string(sheet, n, p), work, 0);
-    let consts = index_part(sheet, n, l.types, |p| skip_type(sheet, n, p), work, types);
-    let imports = index_part(
-        sheet,
-        n,
-        l.consts,
-        |p| skip_const(sheet, n, p),
-        work,
-        consts,
-    );
-    let funcs = index_part(
-        sheet,
-        n,
-        l.imports,
-        |p| skip_import(sheet, n, p),
-        work,
-        imports,
-    );
-    let end = index_part(
-        sheet,
-        n,
-        l.funcs,
-        |p| skip_function(sheet, n, p),
-        work,
-        funcs,
-    );
+    let types = index_part(sheet, n, Part::Strings, l.strings, work, 0);
+    let consts = index_part(sheet, n, Part::Types, l.types, work, types);
+    let imports = index_part(sheet, n, Part::Consts, l.consts, work, consts);
+    let funcs = index_part(sheet, n, Part::Imports, l.imports, work, imports);
+    let end = index_part(sheet, n, Part::Funcs, l.funcs, work, funcs);
     Index {
         strings: 0,
         types,

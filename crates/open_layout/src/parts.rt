@@ -12,13 +12,13 @@ use open_parts::consts::skip_consts;
 use open_parts::imports::{skip_globals, skip_imports};
 use open_parts::tail::{skip_exports, skip_hooks};
 use open_types::skip_types;
-use reader::{skip_list, skip_string};
-use sheet_reader::next_word;
+use reader::skip_string;
+use sheet_reader::{next_word, skip_part};
 
 pub fn skip_strings(sheet: &[u8], n: usize, at: usize) -> Option<usize>
     ensures { result ≡ step_of (list_of string (first_words sheet.now n) at) }
 {
-    skip_list(sheet, n, at, |p| skip_string(sheet, n, p))
+    skip_part(sheet, n, at, |p| skip_string(sheet, n, p))
 }
 
 // Hooks, start and exports; the exports end at n.

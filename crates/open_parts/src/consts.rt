@@ -6,7 +6,8 @@ ghost use Rattle.reader.specs.Step.{step_of};
 ghost use Rattle.sheet.specs.Decode.{const_of};
 
 use blocks::word;
-use reader::{skip_list, skip_records};
+use reader::skip_records;
+use sheet_reader::skip_part;
 
 #[tactic(auto, using(crate::proofs::ConstSteps::consts))]
 pub fn skip_const(sheet: &[u8], n: usize, at: usize) -> Option<usize>
@@ -28,5 +29,5 @@ pub fn skip_const(sheet: &[u8], n: usize, at: usize) -> Option<usize>
 pub fn skip_consts(sheet: &[u8], n: usize, at: usize) -> Option<usize>
     ensures { result ≡ step_of (list_of const_of (first_words sheet.now n) at) }
 {
-    skip_list(sheet, n, at, |p| skip_const(sheet, n, p))
+    skip_part(sheet, n, at, |p| skip_const(sheet, n, p))
 }

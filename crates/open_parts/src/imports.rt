@@ -7,7 +7,8 @@ ghost use Rattle.sheet.specs.Decode.{param_list, import_of, global_of};
 
 use blocks::word;
 use open_types::skip_value;
-use reader::{skip_list, skip_records};
+use reader::skip_records;
+use sheet_reader::skip_part;
 
 // 0, or 1 and a list of flags and names.
 #[tactic(auto, using(crate::proofs::ConstSteps::params))]
@@ -41,7 +42,7 @@ pub fn skip_import(sheet: &[u8], n: usize, at: usize) -> Option<usize>
 pub fn skip_imports(sheet: &[u8], n: usize, at: usize) -> Option<usize>
     ensures { result ≡ step_of (list_of import_of (first_words sheet.now n) at) }
 {
-    skip_list(sheet, n, at, |p| skip_import(sheet, n, p))
+    skip_part(sheet, n, at, |p| skip_import(sheet, n, p))
 }
 
 // A value type, then a constant + 1.
@@ -59,5 +60,5 @@ fn skip_global(sheet: &[u8], n: usize, at: usize) -> Option<usize>
 pub fn skip_globals(sheet: &[u8], n: usize, at: usize) -> Option<usize>
     ensures { result ≡ step_of (list_of global_of (first_words sheet.now n) at) }
 {
-    skip_list(sheet, n, at, |p| skip_global(sheet, n, p))
+    skip_part(sheet, n, at, |p| skip_global(sheet, n, p))
 }

@@ -6,7 +6,7 @@ ghost use Rattle.reader.specs.Step.{step_of};
 ghost use Rattle.sheet.specs.Decode.{hook_of, export_of};
 
 use blocks::word;
-use reader::skip_list;
+use sheet_reader::skip_part;
 
 // A hook, 0 function or 1 import, an index.
 #[tactic(auto, using(crate::proofs::TailSteps::hooks))]
@@ -29,7 +29,7 @@ fn skip_hook(sheet: &[u8], n: usize, at: usize) -> Option<usize>
 pub fn skip_hooks(sheet: &[u8], n: usize, at: usize) -> Option<usize>
     ensures { result ≡ step_of (list_of hook_of (first_words sheet.now n) at) }
 {
-    skip_list(sheet, n, at, |p| skip_hook(sheet, n, p))
+    skip_part(sheet, n, at, |p| skip_hook(sheet, n, p))
 }
 
 // 0 function, 1 global or 2 type; a name, an index.
@@ -52,5 +52,5 @@ fn skip_export(sheet: &[u8], n: usize, at: usize) -> Option<usize>
 pub fn skip_exports(sheet: &[u8], n: usize, at: usize) -> Option<usize>
     ensures { result ≡ step_of (list_of export_of (first_words sheet.now n) at) }
 {
-    skip_list(sheet, n, at, |p| skip_export(sheet, n, p))
+    skip_part(sheet, n, at, |p| skip_export(sheet, n, p))
 }

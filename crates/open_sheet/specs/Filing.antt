@@ -16,7 +16,7 @@ use Rattle.sheet.specs.Decode.{type_def, const_of, import_of, function_of}
 use Rattle.open_layout.specs.LayoutLaws.{Located}
 use Rattle.open_layout.specs.Opened.{module_in}
 use Rattle.open_layout.specs.declared.Layout.{Layout}
-use Rattle.open_index.specs.Index.{Strings, Types, Consts, Imports, Funcs}
+use Rattle.open_index.specs.declared.Part.TheVariants.{Strings, Types, Consts, Imports, Funcs}
 use Rattle.open_index.specs.declared.Index.{Index}
 use Rattle.open_index.specs.Index.{edges_of, index, index_of}
 use Rattle.open_index.specs.IndexLaws.{Indexed}

@@ -10,6 +10,7 @@ ghost use Rattle.sheet.specs.Decode.{value_type, field_of, func_type, struct_typ
 
 use blocks::word;
 use reader::{skip_list, skip_records};
+use sheet_reader::skip_part;
 
 // A value type; 13 to 15 are unlisted.
 pub fn skip_value(sheet: &[u8], n: usize, at: usize) -> Option<usize>
@@ -98,5 +99,5 @@ pub fn skip_type(sheet: &[u8], n: usize, at: usize) -> Option<usize>
 pub fn skip_types(sheet: &[u8], n: usize, at: usize) -> Option<usize>
     ensures { result ≡ step_of (list_of type_def (first_words sheet.now n) at) }
 {
-    skip_list(sheet, n, at, |p| skip_type(sheet, n, p))
+    skip_part(sheet, n, at, |p| skip_type(sheet, n, p))
 }

@@ -4,6 +4,7 @@ use mathlib.Core.Path.{◌≡◌, refl, sym, ap, ap₂, ◌∙◌, subst, fun_ex
 use mathlib.Core.List.{List, ◌∷◌}
 use mathlib.Core.Bool.{Bool, true, false, cond, ◌&&◌, and_comm}
 use Rattle.std.specs.Prelude.{Option, None, Some, Err, Ok}
+use Rattle.std.specs.Bool.{then_some}
 use native.Mathlib.Omega.{arith}
 use lib.Dec.{T, leb, ltb}
 use lib.ListN.{length, get_or}
@@ -63,7 +64,7 @@ module _ (ws : List ℕ) (low high a : ℕ) (known : a < span_count ws) where
 
   module _ {c : Candidate} (s : Scanned ws low high (a + 1) c) where
     same_best : best_from ws low high a ≡ later → Scanned ws low high a c
-    same_best e = record { found = s.found ∙ ap numbered (sym e); least = s.least ∙ ap (least_of ws) (sym e) }
+    same_best e = record { found = e ∙ s.found; least = s.least ∙ ap (least_of ws) (sym e) }
 
     module _ {start pre post : ℕ} (w : Spans ws start low high)
         (e : pre ≡ get_or ws (start + 1 + 3 * a) 0) (f : post ≡ get_or ws (start + 1 + 3 * a + 1) 0) where
@@ -97,13 +98,13 @@ module _ (ws : List ℕ) (low high a : ℕ) (known : a < span_count ws) where
           is_wider b i = same_best (one_more (sym held_is ∙ k)
               ∙ winner_kept later (omega (arith, width_is)) (omega (arith, width_is, s.least)))
 
-          pub no_wider : post - pre ≤ c.width → Scanned ws low high a (record { family = Some (type_number a); width = post - pre })
-          unfolding numbered least_of
+          pub no_wider : post - pre ≤ c.width → Scanned ws low high a (record { family = a; width = post - pre })
+          unfolding least_of
           no_wider i =
               let own : best_from ws low high a ≡ Some a =
               one_more (sym held_is ∙ k) ∙ ap Some (winner_own later (omega (arith, width_is, s.least))) in
               record {
-                found = sym (ap numbered own);
+                found = own ∙ sym (ap (λ b. then_some b a) (lt-ltb a (span_count ws) known));
                 least = width_is ∙ sym (ap (least_of ws) own);
               }
 
@@ -119,13 +120,13 @@ pub ruleset bettering = (passed, no_wrap, is_wider, no_wider, pre_inside, post_i
 -- ── all types ──
 
 module _ (ws : List ℕ) (low high : ℕ) where
-  pub none_yet : {count : ℕ} → count ≡ span_count ws → Scanned ws low high count (record { family = None; width = 4294967295 })
-  unfolding best_from best least_of numbered
+  pub none_yet : {count : ℕ} → count ≡ span_count ws → Scanned ws low high count (record { family = count; width = 4294967295 })
+  unfolding best_from best least_of
   none_yet {count} e =
       let z : span_count ws - count ≡ 0 = omega (arith, e) in
       let q : best_from ws low high count ≡ None = ap (λ n. best (is_narrower ws) (keep (holds ws low high) (from count n))) z in
       record {
-        found = sym (ap numbered q);
+        found = q ∙ sym (ap (λ b. then_some b count) (le-ltb count (span_count ws) (omega (arith, e))));
         least = sym (ap (least_of ws) q);
       }
 
@@ -136,10 +137,18 @@ module _ (ws : List ℕ) (low high : ℕ) {a : ℕ} {c : Candidate} (s : Scanned
   pub next_scanned : 0 < a → Scanned ws low high (a - 1 + 1) c
   next_scanned k = let z : a ≡ a - 1 + 1 = omega arith in subst (λ x. Scanned ws low high x c) z s
 
-  pub to_first : a ≤ 0 → c.family ≡ numbered (best_from ws low high 0)
-  to_first k =
-      let z : a ≡ 0 = omega arith in
-      s.found ∙ ap (λ n. numbered (best_from ws low high n)) z
+  pub to_first : {count : ℕ} {o : Option TypeId} → count ≡ span_count ws → a ≤ 0 →
+      o ≡ then_some (ltb c.family count) (type_number c.family) → o ≡ numbered (best_from ws low high 0)
+  unfolding numbered
+  to_first {count} e k h =
+      let z : 0 ≡ a = omega arith in
+      h ∙ numbered_if (ltb c.family count)
+      ∙ ap (λ n. numbered (then_some (ltb c.family n) c.family)) e
+      ∙ sym (ap numbered (ap (best_from ws low high) z ∙ s.found))
+    where
+      numbered_if : (b : Bool) → then_some b (type_number c.family) ≡ numbered (then_some b c.family)
+      numbered_if true = refl
+      numbered_if false = refl
 
 pub ruleset scanning = (none_yet, next_known, next_scanned, to_first)
 

@@ -1,5 +1,6 @@
 -- The scan for the nearest family: from the last type down to the first, the best so far.
 use Rattle.std.specs.Prelude.{ℕ, ◌+◌, ◌-◌, ◌*◌, ◌≤◌, ◌<◌, ◌≡◌, List, Bool, ◌&&◌, leb, ltb, length, Option, None, Some}
+use Rattle.std.specs.Bool.{then_some}
 use Rattle.lists.specs.Lists.{from, keep}
 use Rattle.lists.specs.Best.{best}
 use Rattle.error.specs.declared.TypeId.{TypeId}
@@ -41,7 +42,7 @@ unfoldable pub least_of : List ℕ → Option ℕ → ℕ
 least_of ws None = 4294967295
 least_of ws (Some f) = width_in ws f
 
--- c is the best among the types from a on
+-- c is the best among the types from a on, or the count of all where there is none
 pub record Scanned (ws : List ℕ) (low high a : ℕ) (c : Candidate) : Type 0 where
-  pub found : c.family ≡ numbered (best_from ws low high a)
+  pub found : best_from ws low high a ≡ then_some (ltb c.family (span_count ws)) c.family
   pub least : c.width ≡ least_of ws (best_from ws low high a)

@@ -11,10 +11,11 @@ use error::TypeId;
 use query::{is_linked, word_at};
 use region::at;
 
-// The nearest family so far, and how wide its span is.
+// The nearest family so far, or the count of all types where there is none yet, and how wide its span is.
+// No Option: with one the loop of `scan` has no branch but a chain of choices, and takes 1.7 times as long (docs/PERFORMANCE.md).
 #[derive(Clone, Copy)]
 pub struct Candidate {
-    family: Option<TypeId>,
+    family: u32,
     width: usize,
 }
 
@@ -38,7 +39,7 @@ fn better(table: &[u32], start: usize, low: usize, high: usize, a: u32, c: Candi
     let post = word_at(table, own + 1);
     if holds(pre, post, low, high) && post - pre <= c.width {
         return Candidate {
-            family: Some(TypeId(a)),
+            family: a,
             width: post - pre,
         };
     }
@@ -53,13 +54,13 @@ fn scan(table: &[u32], start: usize, count: u32, low: usize, high: usize) -> Opt
     ensures { result ≡ numbered (best_from table.now low high 0) }
 {
     let mut c = Candidate {
-        family: None,
+        family: count,
         width: 4294967295,
     };
     for a in (0..count).rev() {
         c = better(table, start, low, high, a, c);
     }
-    c.family
+    (c.family < count).then_some(TypeId(c.family))
 }
 
 // Of two known types, by the numbers at which they are entered, the lower first.

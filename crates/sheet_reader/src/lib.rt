@@ -1,10 +1,11 @@
 // A sheet and the position of its next word, in one struct.
 #![tactic(auto)]
 
-ghost use Rattle.std.specs.Prelude.{◌≡◌, ◌+◌, ◌<◌, ◌^◌, get_or};
+ghost use Rattle.std.specs.Prelude.{◌≡◌, ℕ, Option, ◌+◌, ◌<◌, ◌^◌, get_or};
 ghost use Rattle.blocks.specs.Blocks.{words};
 ghost use Rattle.blocks.specs.Frame.{first_words};
 ghost use Rattle.reader.specs.Reader.{word};
+ghost use Rattle.reader.specs.Step.{list_past};
 ghost use Rattle.sheet_reader.specs.Taken.{taken_of};
 
 // The lent bytes and where the next word stands.
@@ -56,4 +57,24 @@ pub fn next_word(sheet: &[u8], n: usize, at: usize) -> Option<(u32, usize)>
     }
     let r = Reader::new(sheet, at);
     Some((r.word(), r.skip(1).position()))
+}
+
+// A part: its count, then as many members, each passed by `skip`.
+pub fn skip_part<F: Fn(usize) -> Option<usize>>(
+    sheet: &[u8],
+    n: usize,
+    at: usize,
+    skip: F,
+) -> Option<usize>
+    ghost past: { ℕ → Option ℕ }
+    requires callable { F.IsAlwaysCallable skip }
+    requires passes { (p : ℕ) (r : Option ℕ) → F.post skip p r → r ≡ past p }
+    ensures { result ≡ list_past past (first_words sheet.now n) at }
+{
+    let (count, from) = next_word(sheet, n, at)?;
+    let mut p = from;
+    for _ in 0..count {
+        p = skip(p)?;
+    }
+    Some(p)
 }

@@ -1,40 +1,33 @@
-use Rattle.std.proofs.Common.{arith}
-use Rattle.blocks.specs.ByteLaws.{all_bytes}
-use Rattle.reader.specs.ValueLaws.{list_within}
-use Rattle.open_index.proofs.Indexing.{indexes_start, indexes_end, indexes_after, indexes_next, indexes_some}
-use Rattle.open_index.proofs.Indexing.{indexes_length, indexes_room, indexes_in}
+use Rattle.std.proofs.Common.{rules, of_calls}
+use Rattle.open_index.proofs.Members.{member_string, member_type, member_const, member_import, member_func, whole_as, room_as}
 use Rattle.open_index.proofs.index_part.Goals as goal
 
-pub overflow_add-p : goal.overflow_add-p
-overflow_add-p g c = omega (arith, list_within _ _ _ _ c.requires.1.1.1.0)
+pub index_members-requires : goal.index_members-requires
+index_members-requires c κs within =
+    let whole = whole_as c.in-Strings.is _ _ c.requires.whole in
+    let room = room_as c.in-Strings.is _ _ _ _ c.requires.at_in_bounds in
+    search (of_calls, rules, member_string, whole, room) parts 8
 
-pub loop-i-init : goal.loop-i-init
-loop-i-init g c =
-    indexes_start _ _ _ _ _ _ (all_bytes c.args.sheet.now (λ i. omega (arith, c.type_inv.sheet i)))
-    c.requires.1.1.1.0 c.requires.1.1.1.1.1 c.word.ensures
+pub index_members-requires-in-Types : goal.index_members-requires-in-Types
+index_members-requires-in-Types c κs within =
+    let whole = whole_as c.in-Types.is _ _ c.requires.whole in
+    let room = room_as c.in-Types.is _ _ _ _ c.requires.at_in_bounds in
+    search (of_calls, rules, member_type, whole, room) parts 8
 
-pub overflow_cast-work : goal.overflow_cast-work
-overflow_cast-work g c = omega (arith, indexes_in _ _ _ _ _ _ _ _ _ _ c.loop-i.invariant)
+pub index_members-requires-in-Consts : goal.index_members-requires-in-Consts
+index_members-requires-in-Consts c κs within =
+    let whole = whole_as c.in-Consts.is _ _ c.requires.whole in
+    let room = room_as c.in-Consts.is _ _ _ _ c.requires.at_in_bounds in
+    search (of_calls, rules, member_const, whole, room) parts 8
 
-pub bounds-work-i : goal.bounds-work-i
-bounds-work-i g c = omega (arith, indexes_room _ _ _ _ _ _ _ _ _ c.loop-i.invariant, indexes_length _ _ _ _ _ _ _ _ _ c.loop-i.invariant)
+pub index_members-requires-in-Imports : goal.index_members-requires-in-Imports
+index_members-requires-in-Imports c κs within =
+    let whole = whole_as c.in-Imports.is _ _ c.requires.whole in
+    let room = room_as c.in-Imports.is _ _ _ _ c.requires.at_in_bounds in
+    search (of_calls, rules, member_import, whole, room) parts 8
 
-pub unwrap-p-requires : goal.unwrap-p-requires
-unwrap-p-requires g c = indexes_some _ _ _ _ _ _ _ _ _ c.loop-i.invariant (omega arith) (c.requires.1.1.0 _ _ c.skip.ensures)
-
-pub loop-i-preserved : goal.loop-i-preserved
-loop-i-preserved g c =
-    indexes_next _ _ _ _ _ _ _ _ _ c.loop-i.invariant (omega arith) _
-    c.unwrap-p.ensures (c.requires.1.1.0 _ _ c.skip.ensures)
-
-pub overflow_cast-work-2 : goal.overflow_cast-work-2
-overflow_cast-work-2 g c = omega (arith, indexes_in _ _ _ _ _ _ _ _ _ _ c.loop-i.invariant)
-
-pub bounds-work-end : goal.bounds-work-end
-bounds-work-end g c = omega (arith, indexes_room _ _ _ _ _ _ _ _ _ c.loop-i.invariant, indexes_length _ _ _ _ _ _ _ _ _ c.loop-i.invariant)
-
-pub returns-clause-value : goal.returns-clause-value
-returns-clause-value g c = indexes_after _ _ _ _ _ _ _ _ _ c.loop-i.invariant (omega arith)
-
-pub returns-clause-work_after : goal.returns-clause-work_after
-returns-clause-work_after g c = indexes_end _ _ _ _ _ _ _ _ _ c.loop-i.invariant (omega arith)
+pub index_members-requires-in-Funcs : goal.index_members-requires-in-Funcs
+index_members-requires-in-Funcs c κs within =
+    let whole = whole_as c.in-Funcs.is _ _ c.requires.whole in
+    let room = room_as c.in-Funcs.is _ _ _ _ c.requires.at_in_bounds in
+    search (of_calls, rules, member_func, whole, room) parts 8

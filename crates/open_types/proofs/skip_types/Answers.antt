@@ -4,4 +4,4 @@ use Rattle.reader.proofs.ListLaws.{list_passed}
 use Rattle.open_types.proofs.skip_types.Goals as goal
 
 pub returns : goal.returns
-returns c = c.skip_list.ensures ∙ list_passed _ _ _
+returns c = c.skip_part.ensures ∙ list_passed _ _ _

@@ -3,5 +3,5 @@ use Rattle.reader.specs.Step.{step_of}
 use Rattle.reader.specs.Text.{string}
 use Rattle.open_layout.proofs.parts.skip_strings.Given as goal
 
-abbrev pub ghost-skip_list : goal.ghost-skip_list
-ghost-skip_list a = λ p. step_of (string (first_words a.bytes.now a.n) p)
+abbrev pub ghost-skip_part : goal.ghost-skip_part
+ghost-skip_part a = λ p. step_of (string (first_words a.sheet.now a.n) p)

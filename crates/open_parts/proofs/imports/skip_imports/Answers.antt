@@ -3,4 +3,4 @@ use Rattle.reader.proofs.ListLaws.{list_passed}
 use Rattle.open_parts.proofs.imports.skip_imports.Goals as goal
 
 pub returns : goal.returns
-returns c = c.skip_list.ensures ∙ list_passed _ _ _
+returns c = c.skip_part.ensures ∙ list_passed _ _ _
